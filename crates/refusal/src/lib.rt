@@ -1,0 +1,55 @@
+// Why a call is declined. The rows of document 01's table, in its order; the comment at each has that table's word for it.
+ghost use mathlib.Core.Path.{_≡_};
+ghost use Rattle.refusal.specs.Number.{number};
+
+pub enum Refusal {
+    // "overdrawn": the amount is above the length.
+    AmountExceedsLength,
+    // "no list": a new table has no weights.
+    NoWeights,
+    // "flooded": the weights sum above 2^32 - 1.
+    Overflow,
+    // "dry": every weight is, or would be, 0.
+    InsufficientNonZero,
+    // "out of turn": a change's place is not above the one before.
+    PlacesNotIncreasing,
+    // "no such row": a change's place is not below the count of weights.
+    PlaceOutOfRange,
+    // "broken table": the cumulative weights are those of no list of weights, or too few are lent.
+    InvalidTable,
+    // "short tray": a slice to be written has too few entries, or two lists that go together differ in length.
+    SliceTooShort,
+    // "short bench": the in-place method is due and the scratch slice is shorter than the length.
+    ScratchTooShort,
+    // "too long": a length above 2^32 - 1, or a list or a table's count above 2^32 - 2.
+    TooLong,
+    // "false hints": the bounds on what remains do not hold of the items.
+    InvalidHints,
+    // "dead generator": all four words of the generator's state are 0.
+    ZeroState,
+    // "spent": a word is needed, and as many as the budget allows have been read.
+    BudgetExhausted,
+}
+
+impl Refusal {
+    // The table's number for the cause, which callers outside Rattle are given.
+    pub fn number(self) -> u32
+        ensures { λ r. ⌜ r ≡ number self ⌝ }
+    {
+        match self {
+            Refusal::AmountExceedsLength => 1,
+            Refusal::NoWeights => 2,
+            Refusal::Overflow => 3,
+            Refusal::InsufficientNonZero => 4,
+            Refusal::PlacesNotIncreasing => 5,
+            Refusal::PlaceOutOfRange => 6,
+            Refusal::InvalidTable => 7,
+            Refusal::SliceTooShort => 8,
+            Refusal::ScratchTooShort => 9,
+            Refusal::TooLong => 10,
+            Refusal::InvalidHints => 11,
+            Refusal::ZeroState => 12,
+            Refusal::BudgetExhausted => 13,
+        }
+    }
+}
