@@ -1,0 +1,6 @@
+pub mod Tests
+pub mod Sums
+pub mod Counts
+pub mod CountsOfLists
+pub mod Same
+pub mod Distinct

@@ -1,0 +1,35 @@
+-- What is said of lists of numbers: that two are the same, that no entry stands twice, that entries are below bounds.
+use mathlib.Core.Path.{_≡_}
+use mathlib.Core.Bool.{Bool, true, false, _&&_, _||_}
+use mathlib.Core.List.{List, [], _∷_}
+use Prim.Native.Nat.{ℕ, _<_}
+use lib.Dec.{eqb}
+
+-- whether two lists are equal
+abbrev pub same : List ℕ → List ℕ → Bool
+same [] [] = true
+same [] (y ∷ ys) = false
+same (x ∷ xs) [] = false
+same (x ∷ xs) (y ∷ ys) = eqb x y && same xs ys
+
+-- whether a is an entry
+abbrev pub member : ℕ → List ℕ → Bool
+member a [] = false
+member a (x ∷ xs) = eqb a x || member a xs
+
+-- no entry twice
+abbrev pub Distinct : List ℕ → Type 0
+Distinct [] = Unit {0}
+Distinct (x ∷ xs) = (member x xs ≡ false) × Distinct xs
+
+-- every entry below n
+abbrev pub Below : ℕ → List ℕ → Type 0
+Below n [] = Unit {0}
+Below n (x ∷ xs) = (x < n) × Below n xs
+
+-- an entry below each bound, in the bounds' order, and no more
+abbrev pub Within : List ℕ → List ℕ → Type 0
+Within [] [] = Unit {0}
+Within [] (b ∷ bs) = ⊥
+Within (d ∷ ds) [] = ⊥
+Within (d ∷ ds) (b ∷ bs) = (d < b) × Within ds bs
