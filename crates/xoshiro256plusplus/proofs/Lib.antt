@@ -1,0 +1,4 @@
+pub mod Halves
+pub mod Laws
+pub mod LittleEndian
+pub mod Seed
