@@ -1,7 +1,7 @@
 -- Laws of counts of numbers and of pairs.
 -- Assumes nothing.
 use mathlib.Core.Path.{_≡_, refl, sym, ap, ap₂, _∙_}
-use mathlib.Core.Bool.{Bool, true, false, _&&_}
+use mathlib.Core.Bool.{Bool, true, false, not, _&&_}
 use Prim.Native.Nat.{ℕ, zero, suc, _+_, _-_, _*_, _≤_, _<_}
 use native.Mathlib.Nat.{add-zero, zero-add, zero-mul, mul-one}
 use native.Mathlib.Omega.{arith}
@@ -9,7 +9,7 @@ use lib.Dec.{eqb}
 use borrow.Author.Tests.{eq-eqb, ne-eqb}
 use Rattle.counting.specs.Count.{oneIf, sum, count, countPairs}
 use Rattle.counting.proofs.Tests.{oneIf-and}
-use Rattle.counting.proofs.Sums.{sum-cong, sum-zero, sum-const, sum-mul, sum-split, sum-blocks, sum-swap, sum-single}
+use Rattle.counting.proofs.Sums.{sum-cong, sum-zero, sum-const, sum-add, sum-mul, sum-split, sum-blocks, sum-swap, sum-single}
 
 pub count-cong : (p q : ℕ → Bool) (n : ℕ) → ((k : ℕ) → k < n → p k ≡ q k) → count p n ≡ count q n
 unfolding count
@@ -78,3 +78,16 @@ count-parts h n r l =
 pub pairs-flat : (p : ℕ → Bool) (m n : ℕ) → countPairs (λ a b. p (a * n + b)) m n ≡ count p (m * n)
 unfolding countPairs count
 pairs-flat p m n = sum-blocks (λ k. oneIf (p k)) m n
+
+-- those that pass and those that fail
+pub count-not : (p : ℕ → Bool) (n : ℕ) → count p n + count (λ k. not (p k)) n ≡ n
+unfolding count
+count-not p n =
+    sym (sum-add (λ k. oneIf (p k)) (λ k. oneIf (not (p k))) n)
+    ∙ sum-cong (λ k. oneIf (p k) + oneIf (not (p k))) (λ k. 1) n (λ k l. either (p k))
+    ∙ sum-const 1 n
+    ∙ mul-one n
+  where
+    either : (b : Bool) → oneIf b + oneIf (not b) ≡ 1
+    either true = refl
+    either false = refl

@@ -1,0 +1,119 @@
+-- What callers use of the draws' definitions.
+-- Assumes nothing.
+use mathlib.Core.Path.{_≡_, refl, sym, ap, _∙_}
+use mathlib.Core.Bool.{Bool, true, false, cond}
+use mathlib.Core.List.{List, [], _∷_}
+use Prim.Native.Nat.{ℕ, zero, suc, _+_, _-_, _*_, _/_, _%_, _^_, _≤_, _<_}
+use native.Mathlib.Nat.{le-of-lt, add-zero}
+use native.Mathlib.Numerals.{add-one}
+use native.Mathlib.Omega.{arith}
+use lib.Pow.{pow-pos}
+use borrow.Author.Tests.{lt-ltb, le-ltb, le-leb, lt-leb}
+use Rattle.xoshiro256plusplus.specs.Generator.{word, advance, steps}
+use Rattle.xoshiro256plusplus.specs.declared.Xoshiro256PlusPlus.{Xoshiro256PlusPlus}
+use Rattle.xoshiro256plusplus.proofs.Laws.{word-lt}
+use Rattle.counting.specs.Lists.{Within}
+use Rattle.uniform_int.specs.Bounded.{readsTwo, boundedValue, bounded}
+use Rattle.uniform_int.specs.Rejecting.{Drawing, found, spent, accepts, scaled, rejectingAt, rejecting}
+use Rattle.uniform_int.specs.Within.{boundedWithin}
+use Rattle.uniform_int.specs.Draws.{draws, before}
+use Rattle.uniform_int.specs.declared.Drawn.{Drawn}
+use Rattle.uniform_int.proofs.Scaling.{value-lt, value-one}
+
+-- ---- the bounded draw
+
+-- where one word settles it, and where two are read
+pub one-word : (r : ℕ) (g : Xoshiro256PlusPlus) → 0 < r → r < 2 ^ 32 → word g * r % 2 ^ 32 ≤ 2 ^ 32 - r
+    → bounded r g ≡ record { value = word g * r / 2 ^ 32; words = 1; rng = advance g }
+unfolding bounded readsTwo
+one-word r g hr lt room =
+    rw (le-ltb (2 ^ 32 - r) (word g * r % 2 ^ 32) room, value-one (2 ^ 32) r (word g) (word (advance g)) (pow-pos 32) hr (le-of-lt lt) (word-lt (advance g)) room)
+
+pub two-words : (r : ℕ) (g : Xoshiro256PlusPlus) → 2 ^ 32 - r < word g * r % 2 ^ 32
+    → bounded r g ≡ record { value = boundedValue (2 ^ 32) r (word g) (word (advance g)); words = 2; rng = advance (advance g) }
+unfolding bounded readsTwo
+two-words r g more = rw (lt-ltb (2 ^ 32 - r) (word g * r % 2 ^ 32) more)
+
+pub bounded-lt : (r : ℕ) (g : Xoshiro256PlusPlus) → 0 < r → bounded r g .value < r
+unfolding bounded
+bounded-lt r g hr = value-lt (2 ^ 32) r (word g) (word (advance g)) (pow-pos 32) hr (word-lt g) (word-lt (advance g))
+
+-- it reads one word or two
+pub words-pos : (r : ℕ) (g : Xoshiro256PlusPlus) → 0 < bounded r g .words
+unfolding bounded
+words-pos r g = go (readsTwo (2 ^ 32) r (word g))
+  where
+    go : (b : Bool) → 0 < cond b 2 1
+    go true = omega arith
+    go false = omega arith
+
+pub words-le : (r : ℕ) (g : Xoshiro256PlusPlus) → bounded r g .words ≤ 2
+unfolding bounded
+words-le r g = go (readsTwo (2 ^ 32) r (word g))
+  where
+    go : (b : Bool) → cond b 2 1 ≤ 2
+    go true = omega arith
+    go false = omega arith
+
+steps-zero : (g : Xoshiro256PlusPlus) → steps 0 g ≡ g
+unfolding steps
+steps-zero g = refl
+
+steps-one : (g : Xoshiro256PlusPlus) → steps 1 g ≡ advance g
+unfolding steps
+steps-one g = refl
+
+-- ---- the bounded draw within a budget: n words are left and k are read
+
+module _ (r n k : ℕ) (g : Xoshiro256PlusPlus) where
+  pub within-value : bounded r g .words ≤ n → boundedWithin r n g k ≡ found (bounded r g .value) (k + bounded r g .words) (bounded r g .rng)
+  unfolding boundedWithin
+  within-value h = rw (le-leb (bounded r g .words) n h)
+
+  -- no word is left, or one where two are wanted
+  pub within-none : n ≡ 0 → boundedWithin r n g k ≡ spent k g
+  unfolding boundedWithin
+  within-none e = rw (e, lt-leb (bounded r g .words) 0 (words-pos r g), add-zero k, steps-zero g)
+
+  pub within-short : n ≡ 1 → 1 < bounded r g .words → boundedWithin r n g k ≡ spent (k + 1) (advance g)
+  unfolding boundedWithin
+  within-short e h = rw (e, lt-leb (bounded r g .words) 1 h, steps-one g)
+
+-- ---- the rejecting draw: k of n words are read
+
+module _ (M : ℕ) (read : Xoshiro256PlusPlus → ℕ) (r t n k : ℕ) (g : Xoshiro256PlusPlus) where
+  pub no-word-left : n ≤ k → rejectingAt M read r t (n - k) g k ≡ spent k g
+  unfolding rejectingAt
+  no-word-left h = let e : n - k ≡ 0 = omega arith in rw e
+
+  pub word-accepted : k < n → accepts M r t (read g) ≡ true → rejectingAt M read r t (n - k) g k ≡ found (scaled M r (read g)) (k + 1) (advance g)
+  unfolding rejectingAt
+  word-accepted h a = let e : n - k ≡ suc (n - (k + 1)) = omega arith in rw (e, add-one k, a, rejectingAt)
+
+  pub word-dropped : k < n → accepts M r t (read g) ≡ false → rejectingAt M read r t (n - k) g k ≡ rejectingAt M read r t (n - (k + 1)) (advance g) (k + 1)
+  unfolding rejectingAt
+  word-dropped h a =
+      let e : n - k ≡ suc (n - (k + 1)) = omega arith in
+      rw (e, a, rejectingAt) (ap (rejectingAt M read r t (n - (k + 1)) (advance g)) (sym (add-one k)))
+
+-- ---- lists of bounded draws
+
+pub draws-nil : (g : Xoshiro256PlusPlus) → draws [] g ≡ record { values = []; words = 0; rng = g }
+unfolding draws
+draws-nil g = refl
+
+pub draws-cons : (r : ℕ) (rs : List ℕ) (g : Xoshiro256PlusPlus)
+    → draws (r ∷ rs) g ≡ before (bounded r g .value) (bounded r g .words) (draws rs (bounded r g .rng))
+unfolding draws
+draws-cons r rs g = refl
+
+-- every bound is at least 1
+abbrev pub Positive : List ℕ → Type 0
+Positive [] = Unit {0}
+Positive (r ∷ rs) = (0 < r) × Positive rs
+
+-- a value below each bound
+pub draws-within : (rs : List ℕ) (g : Xoshiro256PlusPlus) → Positive rs → Within (draws rs g .values) rs
+unfolding draws
+draws-within [] g h = tt
+draws-within (r ∷ rs) g h = (bounded-lt r g (h .0), draws-within rs (bounded r g .rng) (h .1))

@@ -1,0 +1,6 @@
+pub mod Wmul
+pub mod Bounded
+pub mod Rejecting
+pub mod Within
+pub mod Draws
+pub mod Shares
