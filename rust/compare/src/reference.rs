@@ -122,3 +122,36 @@ impl TryRng for Counting {
         unimplemented!("words are counted, bytes are not")
     }
 }
+
+#[cfg(test)]
+mod tests {
+    use rand::{Rng, RngExt, SeedableRng};
+
+    use super::{Counting, Xoshiro256PlusPlus, from_state, state};
+
+    #[test]
+    fn a_state_goes_in_and_comes_out() {
+        for words in [[1, 2, 3, 4], [0, 0, 0, u64::MAX], [u64::MAX, 10, 0, 256]] {
+            assert_eq!(state(&from_state(words)), words);
+        }
+    }
+
+    #[test]
+    #[should_panic(expected = "takes this state")]
+    fn rand_has_no_generator_of_four_zeros() {
+        let _ = from_state([0; 4]);
+    }
+
+    #[test]
+    fn words_are_counted() {
+        let rng = Xoshiro256PlusPlus::seed_from_u64(1);
+        let mut counting = Counting::new(rng.clone());
+        counting.next_u32();
+        counting.random_range(..1_u32);
+        assert_eq!(counting.words(), 2);
+        let mut advanced = rng;
+        advanced.next_u64();
+        advanced.next_u64();
+        assert_eq!(counting.into_inner(), advanced);
+    }
+}

@@ -33,3 +33,31 @@ pub fn fill_bytes_via_next_word<E>(
     }
     Ok(())
 }
+
+#[cfg(test)]
+mod tests {
+    use core::convert::Infallible;
+
+    use super::{fill_bytes_via_next_word, read_words};
+
+    #[test]
+    fn the_first_byte_is_the_lowest() {
+        let mut seed = [0; 32];
+        seed[0] = 1;
+        seed[9] = 2;
+        seed[31] = 128;
+        assert_eq!(read_words(&seed), [1, 2 << 8, 0, 1 << 63]);
+    }
+
+    #[test]
+    fn a_last_word_is_used_in_part() {
+        let mut word = 0x0807_0605_0403_0201;
+        let mut bytes = [0; 10];
+        let filled = fill_bytes_via_next_word(&mut bytes, || {
+            word += 1;
+            Ok::<u64, Infallible>(word)
+        });
+        assert_eq!(filled, Ok(()));
+        assert_eq!(bytes, [2, 2, 3, 4, 5, 6, 7, 8, 3, 2]);
+    }
+}

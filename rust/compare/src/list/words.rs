@@ -62,17 +62,23 @@ fn around(at: u64, r: u32) -> Vec<u32> {
 
 /// Word pairs on both sides of the bounded draw's two tests: whether a second word is read, and whether it carries.
 pub fn bounded(r: u32) -> Vec<(u32, u32)> {
-    let first = around(WORDS - u64::from(r), r);
-    first
+    let firsts = around(WORDS - u64::from(r), r);
+    let pairs = firsts
         .into_iter()
-        .flat_map(|a| {
-            let l = u64::from(a) * u64::from(r) % WORDS;
-            // The least second word that carries, where there is one.
-            let least = ((WORDS - l) * WORDS).div_ceil(r.into());
-            let seconds = [least - 1, least].map(|b| u32::try_from(b).unwrap_or(u32::MAX));
-            [seconds[0], seconds[1], 0, u32::MAX].map(|b| (a, b))
-        })
-        .collect()
+        .flat_map(|a| seconds(a, r).into_iter().map(move |b| (a, b)));
+    pairs.collect()
+}
+
+/// The second words 0, the last that does not carry, the first that does, and the greatest.
+fn seconds(a: u32, r: u32) -> Vec<u32> {
+    let words = u128::from(WORDS);
+    let short = words - u128::from(a) * u128::from(r) % words;
+    // Above every word where `a` is one after which no second is read.
+    let carries = (short * words).div_ceil(r.into());
+    let wanted = [0, carries - 1, carries, words - 1];
+    let mut seconds: Vec<u32> = wanted.into_iter().flat_map(u32::try_from).collect();
+    seconds.dedup();
+    seconds
 }
 
 /// Word pairs on both sides of the rejecting draw's test: each word near it, followed by each.
