@@ -1,0 +1,55 @@
+//! Numbers to try.
+
+use rand::rngs::Xoshiro256PlusPlus;
+use rand::{Rng, RngExt, SeedableRng};
+
+/// Random numbers, by rand's own generator: an error in the port cannot choose what the port is tried on.
+pub struct Source(Xoshiro256PlusPlus);
+
+impl Source {
+    /// The numbers of a seed.
+    pub fn new(seed: u64) -> Self {
+        Self(Xoshiro256PlusPlus::seed_from_u64(seed))
+    }
+
+    /// A number below `end`.
+    pub fn below(&mut self, end: u32) -> u32 {
+        self.0.random_range(..end)
+    }
+
+    /// Any number of 64 bits, each as likely as another.
+    pub fn even(&mut self) -> u64 {
+        self.0.next_u64()
+    }
+
+    /// A number of 64 bits: as often as not one near a power of two, or with few bits, or 0.
+    pub fn u64(&mut self) -> u64 {
+        let power = 1 << self.below(64);
+        match self.below(8) {
+            0 => u64::wrapping_add(power, self.even() % 16),
+            1 => u64::wrapping_sub(power, self.even() % 16),
+            2 => power | 1 << self.below(64),
+            3 => 0,
+            _ => self.even(),
+        }
+    }
+}
+
+/// 0, the powers of two of 64 bits, their neighbours, and the largest number.
+pub fn edges() -> Vec<u64> {
+    let powers = (0..u64::BITS).map(|exponent| 1 << exponent);
+    let mut edges: Vec<u64> = powers
+        .flat_map(|power| [power - 1, power, power + 1])
+        .collect();
+    edges.push(u64::MAX);
+    edges.sort_unstable();
+    edges.dedup();
+    edges
+}
+
+/// Smaller numbers than this one: those that differ from it by a power of two, the farthest first. Going to one of them
+/// again and again ends at the least number of any range of numbers.
+pub fn smaller(number: u64) -> impl Iterator<Item = u64> {
+    let powers = (0..u64::BITS).rev().map(|exponent| 1 << exponent);
+    powers.filter_map(move |power| number.checked_sub(power))
+}

@@ -1,0 +1,152 @@
+//! What a kind of call is, and how one is run on both sides.
+
+use std::fmt::Debug;
+use std::ops::AddAssign;
+use std::time::{Duration, Instant};
+
+use crate::arguments::Arguments;
+use crate::inputs::Source;
+
+/// A call that both sides answer.
+pub trait Kind {
+    /// The call's name, as rand has it.
+    const NAME: &'static str;
+
+    /// The faults that can be put into the port's answers, so that a comparison is seen to fail.
+    const FAULTS: &'static [&'static str];
+
+    /// All that the call is given.
+    type Input: Clone + Debug;
+
+    /// All that can be seen of its outcome.
+    type Answer: PartialEq + Debug;
+
+    /// The kind with one of its faults planted, or with none where the name is not among its own.
+    fn new(plant: Option<&str>) -> Self;
+
+    /// Hands over the inputs that every run tries: small ones without gap, and those at the edges.
+    fn fixed(visit: impl FnMut(Self::Input));
+
+    /// A random input.
+    fn random(source: &mut Source) -> Self::Input;
+
+    /// Inputs that count as smaller than this one. No chain of them may be endless.
+    fn smaller(input: &Self::Input) -> Vec<Self::Input>;
+
+    /// rand's answer.
+    fn rand(input: &Self::Input) -> Self::Answer;
+
+    /// The port's answer.
+    fn port(&self, input: &Self::Input) -> Self::Answer;
+}
+
+/// Where the random inputs of one kind end: at the first bound that is reached.
+pub struct Bound {
+    /// The time that they may take.
+    pub time: Option<Duration>,
+    /// How many there are at most.
+    pub calls: u64,
+}
+
+/// How many inputs were tried, and on how many of them the sides differ.
+#[derive(Default)]
+pub struct Tally {
+    pub calls: u64,
+    pub differ: u64,
+}
+
+impl AddAssign for Tally {
+    fn add_assign(&mut self, other: Self) {
+        self.calls += other.calls;
+        self.differ += other.differ;
+    }
+}
+
+/// A kind as a line in the program's table.
+pub struct Entry {
+    /// The kind's faults.
+    pub faults: &'static [&'static str],
+    /// Runs the kind and prints what came of it.
+    pub run: fn(&Arguments, &Bound) -> Tally,
+}
+
+impl Entry {
+    /// The line of kind `K`.
+    pub const fn of<K: Kind>() -> Self {
+        Self {
+            faults: K::FAULTS,
+            run: run::<K>,
+        }
+    }
+}
+
+/// Random inputs between two looks at the clock.
+const BATCH: u64 = 256;
+
+fn run<K: Kind>(arguments: &Arguments, bound: &Bound) -> Tally {
+    let mut trial = Trial::new(K::new(arguments.plant.as_deref()));
+    K::fixed(|input| trial.compare(input));
+    let mut source = Source::new(arguments.seed);
+    let started = Instant::now();
+    let mut left = bound.calls;
+    while left > 0 && bound.time.is_none_or(|time| started.elapsed() < time) {
+        let batch = left.min(BATCH);
+        for _ in 0..batch {
+            trial.compare(K::random(&mut source));
+        }
+        left -= batch;
+    }
+    println!("{}: {} calls", K::NAME, trial.tally.calls);
+    trial.report();
+    trial.tally
+}
+
+/// A kind while it is run.
+struct Trial<K: Kind> {
+    kind: K,
+    tally: Tally,
+    first: Option<K::Input>,
+}
+
+impl<K: Kind> Trial<K> {
+    fn new(kind: K) -> Self {
+        Self {
+            kind,
+            tally: Tally::default(),
+            first: None,
+        }
+    }
+
+    fn differs(&self, input: &K::Input) -> bool {
+        K::rand(input) != self.kind.port(input)
+    }
+
+    fn compare(&mut self, input: K::Input) {
+        self.tally.calls += 1;
+        if self.differs(&input) {
+            self.tally.differ += 1;
+            self.first.get_or_insert(input);
+        }
+    }
+
+    /// The input that is reached from the first difference by going to a smaller one for as long as the sides still differ.
+    fn smallest(&self) -> Option<K::Input> {
+        let mut found = self.first.clone()?;
+        while let Some(input) = K::smaller(&found)
+            .into_iter()
+            .find(|input| self.differs(input))
+        {
+            found = input;
+        }
+        Some(found)
+    }
+
+    fn report(&self) {
+        if let Some(input) = self.smallest() {
+            println!("  {} differ; the smallest input found:", self.tally.differ);
+            println!("  {} {input:?}", K::NAME);
+            println!("  rand: {:?}", K::rand(&input));
+            println!("  port: {:?}", self.kind.port(&input));
+        }
+    }
+}

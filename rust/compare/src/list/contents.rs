@@ -1,0 +1,204 @@
+//! What the list holds.
+
+use rand::SeedableRng;
+use rand::rngs::Xoshiro256PlusPlus;
+use reference::state;
+
+use super::call::{Call, State};
+use super::words::{bounded, giving, rejecting};
+
+/// The bounds that are drawn below: the least, powers of two, their neighbours, and the largest.
+const BOUNDS: [u32; 8] = [1, 2, 3, 6, 1 << 31, (1 << 31) + 1, u32::MAX - 1, u32::MAX];
+
+/// Lines of random draws for each bound, and draws in each.
+const LINES: u64 = 15;
+const DRAWS: usize = 20;
+
+/// The outputs that the authors of xoshiro256++ give for the state 1, 2, 3, 4.
+const PUBLISHED: [u64; 10] = [
+    41943041,
+    58720359,
+    3588806011781223,
+    3591011842654386,
+    9228616714210784205,
+    9973669472204895162,
+    14011001112246962877,
+    12406186145184390807,
+    15849039046786891736,
+    10450023813501588000,
+];
+
+/// Calls that belong together.
+pub struct Section {
+    /// What they are, for the comment before them.
+    pub title: String,
+    pub calls: Vec<Call>,
+}
+
+impl Section {
+    fn new(title: impl Into<String>, calls: Vec<Call>) -> Self {
+        let title = title.into();
+        Self { title, calls }
+    }
+}
+
+/// The whole list.
+pub fn sections() -> Vec<Section> {
+    let mut sections = vec![published(), seeds(), seed_bytes(), steps(), marked()];
+    for r in BOUNDS {
+        sections.push(random_bounded(r));
+        sections.push(chosen_bounded(r));
+        sections.push(random_rejecting(r));
+        sections.push(chosen_rejecting(r));
+    }
+    sections
+}
+
+/// The state of one of rand's generators, as good as any other.
+fn some_state(number: u64) -> State {
+    state(&Xoshiro256PlusPlus::seed_from_u64(number))
+}
+
+fn published() -> Section {
+    let call = Call::NextU64([1, 2, 3, 4], PUBLISHED.len());
+    assert_eq!(call.answer()[..PUBLISHED.len()], PUBLISHED);
+    Section::new(
+        "The authors' published outputs from the state 1, 2, 3, 4",
+        vec![call],
+    )
+}
+
+fn seeds() -> Section {
+    let mut seeds: Vec<u64> = (0..=16).chain([12345, u64::MAX - 1, u64::MAX]).collect();
+    for exponent in [8, 16, 31, 32, 33, 48, 62, 63] {
+        seeds.extend([(1 << exponent) - 1, 1 << exponent, (1 << exponent) + 1]);
+    }
+    // Seeds around those at which each of SplitMix64's four sums passes 2^64 or comes to 0.
+    const PHI: u64 = 0x9e37_79b9_7f4a_7c15;
+    for sums in 1..=4 {
+        let zero = PHI.wrapping_mul(sums).wrapping_neg();
+        seeds.extend([zero.wrapping_sub(1), zero, zero.wrapping_add(1)]);
+    }
+    let calls = seeds.into_iter().map(Call::SeedFromU64).collect();
+    Section::new("Generators from one number", calls)
+}
+
+fn seed_bytes() -> Section {
+    let mut seeds = vec![[0; 32], [1; 32], [127; 32], [128; 32], [255; 32]];
+    for byte in [1, 128, 255] {
+        for place in 0..32 {
+            let mut seed = [0; 32];
+            seed[place] = byte;
+            seeds.push(seed);
+        }
+    }
+    seeds.push(std::array::from_fn(|place| place as u8));
+    seeds.push(std::array::from_fn(|place| 255 - place as u8));
+    let calls = seeds.into_iter().map(Call::FromSeed).collect();
+    Section::new("Generators from 32 bytes", calls)
+}
+
+fn steps() -> Section {
+    let mut states = vec![[1, 2, 3, 4], [u64::MAX; 4], [1 << 63; 4]];
+    for place in 0..4 {
+        for word in [1, 1 << 63, u64::MAX] {
+            let mut state = [0; 4];
+            state[place] = word;
+            states.push(state);
+        }
+    }
+    states.extend((0..10).map(some_state));
+    let calls = states
+        .into_iter()
+        .flat_map(|from| [Call::NextU64(from, 10), Call::NextU32(from, 10)]);
+    Section::new(
+        "Outputs, and words, which are their upper halves",
+        calls.collect(),
+    )
+}
+
+/// The draws that document 01 works out, each held to what it says: first word, second word, value, words read.
+fn marked() -> Section {
+    let drawn = [
+        (2147483648, 0, 3, 1),
+        (4294967295, 0, 5, 1),
+        (715827882, 2863311531, 1, 2),
+        (715827882, 2863311530, 0, 2),
+    ];
+    let mut calls = Vec::new();
+    for (a, b, value, words) in drawn {
+        let call = Call::RandomRange {
+            from: giving(a, b, 1),
+            r: 6,
+            draws: 1,
+        };
+        assert_eq!(call.answer()[..2], [value, words]);
+        calls.push(call);
+    }
+    let dropped = Call::UniformInt {
+        from: giving(0, 1, 1),
+        r: 6,
+        budget: 2,
+        draws: 1,
+    };
+    assert_eq!(dropped.answer()[..3], [0, 0, 2]);
+    calls.push(dropped);
+    Section::new("The draws below 6 that document 01 works out", calls)
+}
+
+fn random_bounded(r: u32) -> Section {
+    let calls = (0..LINES).map(|line| {
+        let from = some_state(u64::from(r) << 8 | line);
+        Call::RandomRange {
+            from,
+            r,
+            draws: DRAWS,
+        }
+    });
+    Section::new(format!("Bounded draws below {r}"), calls.collect())
+}
+
+fn chosen_bounded(r: u32) -> Section {
+    let pairs = bounded(r).into_iter().zip(1..);
+    let calls = pairs.map(|((a, b), salt)| {
+        let from = giving(a, b, some_state(salt)[0]);
+        Call::RandomRange { from, r, draws: 2 }
+    });
+    Section::new(
+        format!("Bounded draws below {r} at the second word's tests"),
+        calls.collect(),
+    )
+}
+
+fn random_rejecting(r: u32) -> Section {
+    let budgets = [0, 1, 2, 3, 4, 1000, u64::MAX];
+    let calls = (0..LINES)
+        .zip(budgets.into_iter().cycle())
+        .map(|(line, budget)| {
+            let from = some_state(u64::from(r) << 8 | 128 | line);
+            Call::UniformInt {
+                from,
+                r,
+                budget,
+                draws: DRAWS,
+            }
+        });
+    Section::new(format!("Rejecting draws below {r}"), calls.collect())
+}
+
+fn chosen_rejecting(r: u32) -> Section {
+    let pairs = rejecting(r).into_iter().zip(1..);
+    let calls = pairs.flat_map(|((a, b), salt)| {
+        let from = giving(a, b, some_state(salt)[0]);
+        [1, 2, 3, u64::MAX].map(|budget| Call::UniformInt {
+            from,
+            r,
+            budget,
+            draws: 1,
+        })
+    });
+    Section::new(
+        format!("Rejecting draws below {r} at the threshold"),
+        calls.collect(),
+    )
+}

@@ -1,0 +1,11 @@
+//! The functions of `include/gapyndura.h`, declared for Rust.
+//!
+//! Nothing checks these lines against the header or against the Rattle functions: keep the three alike.
+
+// SAFETY: a function that is marked safe here takes numbers and references to arrays of the lengths that the header
+// names. Such references are what the header asks of a caller: not null, aligned, good for the length, and what is
+// borrowed for writing overlaps nothing else.
+unsafe extern "C" {
+    pub safe fn gapyndura_from_seed(seed: &[u8; 32], state: &mut [u64; 4]);
+    pub safe fn gapyndura_seed_from_u64(seed: u64, state: &mut [u64; 4]);
+}

@@ -1,0 +1,79 @@
+//! The generator.
+
+use crate::boundary::{gapyndura_from_seed, gapyndura_seed_from_u64};
+
+/// The generator xoshiro256++ of Blackman and Vigna, as four words of state.
+///
+/// Two generators are equal exactly if their states are.
+#[derive(Clone, Debug, PartialEq, Eq)]
+pub struct Xoshiro256PlusPlus {
+    state: [u64; 4],
+}
+
+impl Xoshiro256PlusPlus {
+    /// The generator whose state is the 32 bytes read as four little-endian words. All-zero bytes, which make no
+    /// generator, give that of [`seed_from_u64`](Self::seed_from_u64) at 0.
+    ///
+    /// ```
+    /// use gapyndura::Xoshiro256PlusPlus;
+    ///
+    /// let mut seed = [0; 32];
+    /// seed[0] = 1;
+    /// seed[9] = 2;
+    /// let rng = Xoshiro256PlusPlus::from_seed(seed);
+    /// assert_eq!(rng.state(), [1, 512, 0, 0]);
+    ///
+    /// let zero = Xoshiro256PlusPlus::from_seed([0; 32]);
+    /// assert_eq!(zero, Xoshiro256PlusPlus::seed_from_u64(0));
+    /// ```
+    #[must_use]
+    pub fn from_seed(seed: [u8; 32]) -> Self {
+        let mut state = [0; 4];
+        gapyndura_from_seed(&seed, &mut state);
+        Self { state }
+    }
+
+    /// The generator whose state is the first four outputs of SplitMix64 from `seed`.
+    ///
+    /// ```
+    /// use gapyndura::Xoshiro256PlusPlus;
+    ///
+    /// let rng = Xoshiro256PlusPlus::seed_from_u64(0);
+    /// assert_eq!(
+    ///     rng.state(),
+    ///     [16294208416658607535, 7960286522194355700, 487617019471545679, 17909611376780542444],
+    /// );
+    /// ```
+    #[must_use]
+    pub fn seed_from_u64(seed: u64) -> Self {
+        let mut state = [0; 4];
+        gapyndura_seed_from_u64(seed, &mut state);
+        Self { state }
+    }
+
+    /// The generator with these four words of state. Any are taken: a generator with all four 0 would give 0 for ever,
+    /// and it is the calls that draw from it that decline it.
+    ///
+    /// ```
+    /// use gapyndura::Xoshiro256PlusPlus;
+    ///
+    /// let rng = Xoshiro256PlusPlus::seed_from_u64(7);
+    /// assert_eq!(Xoshiro256PlusPlus::from_state(rng.state()), rng);
+    /// ```
+    #[must_use]
+    pub const fn from_state(state: [u64; 4]) -> Self {
+        Self { state }
+    }
+
+    /// The four words of state.
+    ///
+    /// ```
+    /// use gapyndura::Xoshiro256PlusPlus;
+    ///
+    /// assert_eq!(Xoshiro256PlusPlus::from_state([1, 2, 3, 4]).state(), [1, 2, 3, 4]);
+    /// ```
+    #[must_use]
+    pub const fn state(&self) -> [u64; 4] {
+        self.state
+    }
+}

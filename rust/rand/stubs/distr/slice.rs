@@ -1,0 +1,1 @@
+//! Stands in for a file of rand that was not delivered. Nothing of it is needed.

@@ -1,0 +1,9 @@
+//! Stands in for a file of rand that was not delivered. Only its names are needed.
+
+/// Not delivered; no value of it exists here.
+#[derive(Clone, Copy, Debug)]
+pub enum UniformChar {}
+
+/// Not delivered; no value of it exists here.
+#[derive(Clone, Copy, Debug)]
+pub enum UniformDuration {}
