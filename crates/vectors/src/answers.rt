@@ -1,0 +1,18 @@
+// What is written: numbers with single spaces between, and at the end of each answer the generator's state or a line end.
+use libc::STDOUT_FILENO;
+use xoshiro256plusplus::Xoshiro256PlusPlus;
+
+// A number that another follows.
+pub fn put(n: u64) {
+    io::print_decimal(STDOUT_FILENO, n);
+    io::write_all(STDOUT_FILENO, b" ");
+}
+
+// The state, which ends a line.
+pub fn put_state(rng: Xoshiro256PlusPlus) {
+    put(rng.s0);
+    put(rng.s1);
+    put(rng.s2);
+    io::print_decimal(STDOUT_FILENO, rng.s3);
+    io::write_all(STDOUT_FILENO, b"\n");
+}

@@ -1,0 +1,135 @@
+// The calls that a list can ask for, by the names that the Rust has for them.
+ghost use Prim.Native.Nat.{_<_};
+use super::answers::put;
+use super::answers::put_state;
+use super::text::Numbers;
+use super::text::name_end;
+use super::text::read_numbers;
+use check::same;
+use uniform_int::Draw;
+use uniform_int::UniformInt;
+use uniform_int::random_range;
+use xoshiro256plusplus::Xoshiro256PlusPlus;
+
+// The generator whose state is the first four numbers.
+fn generator(n: Numbers) -> Xoshiro256PlusPlus {
+    let values = n.values;
+    Xoshiro256PlusPlus {
+        s0: values[0],
+        s1: values[1],
+        s2: values[2],
+        s3: values[3],
+    }
+}
+
+// The first 32 numbers as bytes.
+fn seed(n: Numbers) -> [u8; 32] {
+    let values = n.values;
+    let mut bytes = [0u8; 32];
+    for i in 0..32usize {
+        bytes[i] = (values[i] % 256) as u8;
+    }
+    bytes
+}
+
+// A number as a bound of a draw; 1 where it is none.
+fn bound(n: u64) -> u32
+    ensures { λ r. ⌜ 0 < r ⌝ }
+{
+    if n == 0 || n > 0xffff_ffff {
+        return 1;
+    }
+    n as u32
+}
+
+// What is read again and again from one generator.
+enum Reading {
+    Output,
+    Word,
+    Bounded(u64),
+    Rejecting(u64, u64),
+}
+
+fn put_draw(draw: Draw) {
+    match draw {
+        Draw::Value(v) => {
+            put(0);
+            put(v as u64);
+        }
+        Draw::Spent => {
+            put(13);
+            put(0);
+        }
+    }
+}
+
+// A bounded draw: its value and its words.
+fn bounded(rng: Xoshiro256PlusPlus, range: u64) -> Xoshiro256PlusPlus {
+    let d = random_range(rng, bound(range));
+    put(d.value as u64);
+    put(d.words);
+    d.rng
+}
+
+// A rejecting draw: its number, its value and its words.
+fn rejecting(rng: Xoshiro256PlusPlus, range: u64, budget: u64) -> Xoshiro256PlusPlus {
+    let s = UniformInt::new(bound(range)).sample(rng, 0, budget);
+    let draw = s.draw;
+    put_draw(draw);
+    put(s.words);
+    s.rng
+}
+
+// One reading, written. The generator after it is returned.
+fn read_once(reading: Reading, rng: Xoshiro256PlusPlus) -> Xoshiro256PlusPlus {
+    match reading {
+        Reading::Output => {
+            let o = rng.next_u64();
+            put(o.value);
+            o.rng
+        }
+        Reading::Word => {
+            let w = rng.next_u32();
+            put(w.value as u64);
+            w.rng
+        }
+        Reading::Bounded(range) => bounded(rng, range),
+        Reading::Rejecting(range, budget) => rejecting(rng, range, budget),
+    }
+}
+
+// So many readings, one after another, and the state after them.
+fn read_all(reading: Reading, rng: Xoshiro256PlusPlus, count: u64) {
+    let mut state = rng;
+    for _ in 0..count {
+        state = read_once(reading, state);
+    }
+    put_state(state);
+}
+
+// Makes the call on a line and writes its answer.
+pub fn make(line: &[u8]) {
+    let end = name_end(line);
+    let name = &line[..end];
+    let n = read_numbers(line, end);
+    let values = n.values;
+    if same(name, b"seed_from_u64") {
+        put_state(Xoshiro256PlusPlus::seed_from_u64(values[0]));
+    }
+    if same(name, b"from_seed") {
+        put_state(Xoshiro256PlusPlus::from_seed(seed(n)));
+    }
+    if same(name, b"next_u64") {
+        read_all(Reading::Output, generator(n), values[4]);
+    }
+    if same(name, b"next_u32") {
+        read_all(Reading::Word, generator(n), values[4]);
+    }
+    if same(name, b"random_range") {
+        read_all(Reading::Bounded(values[4]), generator(n), values[5]);
+    }
+    if same(name, b"uniform_int") {
+        let reading = Reading::Rejecting(values[4], values[5]);
+        read_all(reading, generator(n), values[6]);
+    }
+}
