@@ -15,7 +15,7 @@ use Rattle.xoshiro256plusplus.specs.Splitmix64.{nextSeed, mix64}
 use Rattle.xoshiro256plusplus.specs.Seed.{seeded, fromSeed, fourWords}
 use Rattle.xoshiro256plusplus.specs.NeverZero.{NeverZero}
 use Rattle.xoshiro256plusplus.specs.declared.Xoshiro256PlusPlus.{Xoshiro256PlusPlus}
-use Rattle.xoshiro256plusplus.proofs.Laws.{add64-lt, mul64-lt}
+use Rattle.xoshiro256plusplus.proofs.Laws.{mul64-lt, next-seed-lt}
 use Rattle.xoshiro256plusplus.proofs.Seed.{from-zero, from-words}
 use Rattle.xoshiro256plusplus.proofs.Zero.{xor-zero, shl-keeps-zero, rotl-zero, xor-shift-zero, round-zero}
 
@@ -64,8 +64,8 @@ unfolding seeded nextSeed add64
 from-number n =
     not-zero (seeded n)
     (λ z.
-    let first : nextSeed n ≡ 0 = mix64-zero (nextSeed n) (add64-lt _ _) (z .z0) in
-    let second : nextSeed (nextSeed n) ≡ 0 = mix64-zero (nextSeed (nextSeed n)) (add64-lt _ _) (z .z1) in
+    let first : nextSeed n ≡ 0 = mix64-zero (nextSeed n) (next-seed-lt _) (z .z0) in
+    let second : nextSeed (nextSeed n) ≡ 0 = mix64-zero (nextSeed (nextSeed n)) (next-seed-lt _) (z .z1) in
     omega (arith, rw first at second))
 
 from-bytes : (s : List ℕ) → length s ≡ 32 → zeroState (fromSeed s) ≡ false
