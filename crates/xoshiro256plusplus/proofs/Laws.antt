@@ -1,16 +1,31 @@
 -- What callers use of the generator's definitions.
 -- Assumes nothing.
-use Prim.Native.Nat.{ℕ, _^_, _<_}
+use Prim.Native.Nat.{ℕ, _+_, _*_, _^_, _<_}
 use native.Mathlib.Nat.{mod-lt}
 use lib.Pow.{pow-pos, shr-lt}
-use Rattle.xoshiro256plusplus.specs.Word64.{add64}
+use Rattle.xoshiro256plusplus.specs.Word64.{add64, mul64}
+use Rattle.xoshiro256plusplus.specs.Splitmix64.{nextSeed}
 use Rattle.xoshiro256plusplus.specs.Generator.{output, word}
 use Rattle.xoshiro256plusplus.specs.declared.Xoshiro256PlusPlus.{Xoshiro256PlusPlus}
 
+-- a sum and a product that keep the low 64 bits
+pub add64-lt : (a b : ℕ) → add64 a b < 2 ^ 64
+unfolding add64
+add64-lt a b = mod-lt (a + b) (pow-pos 64)
+
+pub mul64-lt : (a b : ℕ) → mul64 a b < 2 ^ 64
+unfolding mul64
+mul64-lt a b = mod-lt (a * b) (pow-pos 64)
+
+-- a state of splitmix64 has 64 bits
+pub next-seed-lt : (z : ℕ) → nextSeed z < 2 ^ 64
+unfolding nextSeed
+next-seed-lt z = add64-lt z 0x9e3779b97f4a7c15
+
 -- an output has 64 bits
 pub output-lt : (g : Xoshiro256PlusPlus) → output g < 2 ^ 64
-unfolding output add64
-output-lt g = mod-lt _ (pow-pos 64)
+unfolding output
+output-lt g = add64-lt _ _
 
 -- a word has 32 bits
 pub word-lt : (g : Xoshiro256PlusPlus) → word g < 2 ^ 32

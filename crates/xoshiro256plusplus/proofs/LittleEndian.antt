@@ -6,7 +6,7 @@ use Prim.Native.Nat.{ℕ, zero, suc, _+_, _-_, _*_, _^_, _≤_, _<_}
 use native.Mathlib.Nat.{le-mul-of-pos-right, mul-le-mul-right, one-le-pow, pow-suc}
 use native.Mathlib.Omega.{arith}
 use lib.ListN.{take, drop, getD, length-take, drop-of-length-le}
-use lib.Seq.{drop-nil, getD-take, getD-drop}
+use lib.Seq.{getD-take, getD-drop}
 use Rattle.xoshiro256plusplus.specs.Seed.{littleEndian, wordAt}
 
 -- read so far: the bytes from place i of the eight on; i more still fit

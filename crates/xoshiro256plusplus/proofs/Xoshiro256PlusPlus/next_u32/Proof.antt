@@ -11,7 +11,7 @@ cast-value c = search needs
 
 returns : tie.Need-returns
 unfolding word
-returns c = record { value = cc; rng = cc }
+returns c = record { value = rw (c .before .before .next-u64 .ensures .value); rng = c .before .before .next-u64 .ensures .rng }
 
 pub next-u32-spec : {M : Type 1} → statement M
 next-u32-spec = tie.close (tie.spec next-u64-requires cast-value returns)

@@ -1,0 +1,11 @@
+use mathlib.Core.Path.{refl}
+use Rattle.capi.specs.State.{words}
+use Rattle.capi.proofs.state.store.Statement.{statement}
+use Rattle.capi.proofs.state.store.Tie as tie
+
+returns : tie.Need-returns
+unfolding words
+returns c = refl
+
+pub store-spec : {M : Type 1} → statement M
+store-spec = tie.close (tie.spec returns)
