@@ -9,9 +9,9 @@ use native.Mathlib.Numerals.{add-one}
 use native.Mathlib.Omega.{arith}
 use lib.Pow.{pow-pos}
 use borrow.Author.Tests.{lt-ltb, le-ltb, le-leb, lt-leb}
-use Rattle.xoshiro256plusplus.specs.Generator.{word, advance, steps}
+use Rattle.xoshiro256plusplus.specs.Generator.{word, advance}
 use Rattle.xoshiro256plusplus.specs.declared.Xoshiro256PlusPlus.{Xoshiro256PlusPlus}
-use Rattle.xoshiro256plusplus.proofs.Laws.{word-lt}
+use Rattle.xoshiro256plusplus.proofs.Laws.{word-lt, steps-zero, steps-one}
 use Rattle.counting.specs.Lists.{Within}
 use Rattle.uniform_int.specs.Bounded.{readsTwo, boundedValue, bounded}
 use Rattle.uniform_int.specs.Rejecting.{Drawing, found, spent, accepts, scaled, rejectingAt, rejecting}
@@ -54,14 +54,6 @@ words-le r g = go (readsTwo (2 ^ 32) r (word g))
     go : (b : Bool) → cond b 2 1 ≤ 2
     go true = omega arith
     go false = omega arith
-
-steps-zero : (g : Xoshiro256PlusPlus) → steps 0 g ≡ g
-unfolding steps
-steps-zero g = refl
-
-steps-one : (g : Xoshiro256PlusPlus) → steps 1 g ≡ advance g
-unfolding steps
-steps-one g = refl
 
 -- ---- the bounded draw within a budget: n words are left and k are read
 

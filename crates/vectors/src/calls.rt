@@ -7,8 +7,10 @@ use super::text::name_end;
 use super::text::read_numbers;
 use check::same;
 use uniform_int::Draw;
+use uniform_int::Sampled;
 use uniform_int::UniformInt;
 use uniform_int::random_range;
+use uniform_int::random_range_within;
 use xoshiro256plusplus::Xoshiro256PlusPlus;
 
 // The generator whose state is the first four numbers.
@@ -47,10 +49,13 @@ enum Reading {
     Output,
     Word,
     Bounded(u64),
+    Within(u64, u64),
     Rejecting(u64, u64),
 }
 
-fn put_draw(draw: Draw) {
+// A draw under a budget: its number, its value and its words. The generator after it is returned.
+fn put_sampled(s: Sampled) -> Xoshiro256PlusPlus {
+    let draw = s.draw;
     match draw {
         Draw::Value(v) => {
             put(0);
@@ -61,6 +66,8 @@ fn put_draw(draw: Draw) {
             put(0);
         }
     }
+    put(s.words);
+    s.rng
 }
 
 // A bounded draw: its value and its words.
@@ -69,15 +76,6 @@ fn bounded(rng: Xoshiro256PlusPlus, range: u64) -> Xoshiro256PlusPlus {
     put(d.value as u64);
     put(d.words);
     d.rng
-}
-
-// A rejecting draw: its number, its value and its words.
-fn rejecting(rng: Xoshiro256PlusPlus, range: u64, budget: u64) -> Xoshiro256PlusPlus {
-    let s = UniformInt::new(bound(range)).sample(rng, 0, budget);
-    let draw = s.draw;
-    put_draw(draw);
-    put(s.words);
-    s.rng
 }
 
 // One reading, written. The generator after it is returned.
@@ -94,7 +92,12 @@ fn read_once(reading: Reading, rng: Xoshiro256PlusPlus) -> Xoshiro256PlusPlus {
             w.rng
         }
         Reading::Bounded(range) => bounded(rng, range),
-        Reading::Rejecting(range, budget) => rejecting(rng, range, budget),
+        Reading::Within(range, budget) => {
+            put_sampled(random_range_within(rng, bound(range), 0, budget))
+        }
+        Reading::Rejecting(range, budget) => {
+            put_sampled(UniformInt::new(bound(range)).sample(rng, 0, budget))
+        }
     }
 }
 
@@ -127,6 +130,10 @@ pub fn make(line: &[u8]) {
     }
     if same(name, b"random_range") {
         read_all(Reading::Bounded(values[4]), generator(n), values[5]);
+    }
+    if same(name, b"random_range_within") {
+        let reading = Reading::Within(values[4], values[5]);
+        read_all(reading, generator(n), values[6]);
     }
     if same(name, b"uniform_int") {
         let reading = Reading::Rejecting(values[4], values[5]);

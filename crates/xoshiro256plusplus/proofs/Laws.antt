@@ -1,11 +1,12 @@
 -- What callers use of the generator's definitions.
 -- Assumes nothing.
+use mathlib.Core.Path.{_≡_, refl}
 use Prim.Native.Nat.{ℕ, _+_, _*_, _^_, _<_}
 use native.Mathlib.Nat.{mod-lt}
 use lib.Pow.{pow-pos, shr-lt}
 use Rattle.xoshiro256plusplus.specs.Word64.{add64, mul64}
 use Rattle.xoshiro256plusplus.specs.Splitmix64.{nextSeed}
-use Rattle.xoshiro256plusplus.specs.Generator.{output, word}
+use Rattle.xoshiro256plusplus.specs.Generator.{output, advance, word, steps}
 use Rattle.xoshiro256plusplus.specs.declared.Xoshiro256PlusPlus.{Xoshiro256PlusPlus}
 
 -- a sum and a product that keep the low 64 bits
@@ -31,3 +32,12 @@ output-lt g = add64-lt _ _
 pub word-lt : (g : Xoshiro256PlusPlus) → word g < 2 ^ 32
 unfolding word
 word-lt g = shr-lt 32 32 (output-lt g)
+
+-- no step, and one
+pub steps-zero : (g : Xoshiro256PlusPlus) → steps 0 g ≡ g
+unfolding steps
+steps-zero g = refl
+
+pub steps-one : (g : Xoshiro256PlusPlus) → steps 1 g ≡ advance g
+unfolding steps
+steps-one g = refl
