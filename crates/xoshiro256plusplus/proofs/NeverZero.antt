@@ -34,9 +34,9 @@ both false b e = absurd (false≢true e)
 zeros : (g : Xoshiro256PlusPlus) → zeroState g ≡ true → Zeros g
 unfolding zeroState
 zeros g e =
-    let (e0, e123) = both (eqb (g .s0) 0) _ e in
-    let (e1, e23) = both (eqb (g .s1) 0) _ e123 in
-    let (e2, e3) = both (eqb (g .s2) 0) _ e23 in
+    let (e012, e3) = both _ (eqb (g .s3) 0) e in
+    let (e01, e2) = both _ (eqb (g .s2) 0) e012 in
+    let (e0, e1) = both (eqb (g .s0) 0) (eqb (g .s1) 0) e01 in
     record { z0 = eqb-true _ _ e0; z1 = eqb-true _ _ e1; z2 = eqb-true _ _ e2; z3 = eqb-true _ _ e3 }
 
 zero-state : (g : Xoshiro256PlusPlus) → Zeros g → zeroState g ≡ true

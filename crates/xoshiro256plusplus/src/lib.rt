@@ -2,7 +2,7 @@
 ghost use mathlib.Core.Path.{_≡_};
 ghost use Rattle.xoshiro256plusplus.specs.Generator.{Stepped, Worded, zeroState};
 ghost use Rattle.xoshiro256plusplus.specs.Seed.{seeded, fromSeed};
-use little_endian::read_u64;
+use little_endian::read_words;
 use splitmix64::mix64;
 use splitmix64::next_seed;
 use wrapping::rotate_left;
@@ -37,12 +37,7 @@ impl Xoshiro256PlusPlus {
     pub fn from_seed(seed: [u8; 32]) -> Self
         ensures { λ r. ⌜ r ≡ fromSeed seed ⌝ }
     {
-        let state = Xoshiro256PlusPlus {
-            s0: read_u64(&seed, 0),
-            s1: read_u64(&seed, 8),
-            s2: read_u64(&seed, 16),
-            s3: read_u64(&seed, 24),
-        };
+        let state = read_words(&seed);
         if state.is_zero() {
             return Xoshiro256PlusPlus::seed_from_u64(0);
         }
@@ -107,15 +102,6 @@ impl Xoshiro256PlusPlus {
     pub fn is_zero(self) -> bool
         ensures { λ r. ⌜ r ≡ zeroState self ⌝ }
     {
-        if self.s0 != 0 {
-            return false;
-        }
-        if self.s1 != 0 {
-            return false;
-        }
-        if self.s2 != 0 {
-            return false;
-        }
-        self.s3 == 0
+        (self.s0 | self.s1 | self.s2 | self.s3) == 0
     }
 }
