@@ -44,7 +44,8 @@ impl Xoshiro256PlusPlus {
         state
     }
 
-    // The generator whose state is the first four outputs of splitmix64 from `state`: the definition `seeded`. It is never all 0: `never-zero`.
+    // The generator whose state is the first four outputs of splitmix64 from `state`: the definition `seeded`. It is
+    // never all 0: `never-zero`.
     pub fn seed_from_u64(state: u64) -> Self
         ensures { λ r. ⌜ r ≡ seeded state ⌝ }
     {
@@ -60,7 +61,8 @@ impl Xoshiro256PlusPlus {
         }
     }
 
-    // One step: the output (the definition `output`) beside the advanced generator (`advance`). Some fifteen operations, no loop.
+    // One step: the output (the definition `output`) beside the advanced generator (`advance`). A dozen operations; compiled,
+    // no branch.
     pub fn next_u64(self) -> Output
         ensures { λ r. ⌜ Stepped self r ⌝ }
     {
@@ -84,7 +86,7 @@ impl Xoshiro256PlusPlus {
     }
 
     // One step: a word, the upper half of the step's output (the definition `word`), beside the advanced generator. The upper half,
-    // since the lowest bits of an output depend on one another linearly.
+    // since the lowest bits of an output have linear dependencies.
     pub fn next_u32(self) -> Word
         ensures { λ r. ⌜ Worded self r ⌝ }
     {
@@ -97,8 +99,8 @@ impl Xoshiro256PlusPlus {
         }
     }
 
-    // Whether all four words are 0, the one state that steps only to itself: the definition `zeroState`. A caller can hand over such a
-    // generator; seeding never makes one and no step reaches it (`never-zero`).
+    // Whether all four words are 0, a state that steps only to itself: the definition `zeroState`. A caller can hand over such a
+    // generator; no seeding makes one and no step reaches it from another state (`never-zero`).
     pub fn is_zero(self) -> bool
         ensures { λ r. ⌜ r ≡ zeroState self ⌝ }
     {

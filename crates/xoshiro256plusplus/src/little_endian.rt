@@ -4,6 +4,7 @@ ghost use Prim.Native.Nat.{_<_, _≤_};
 ghost use Rattle.xoshiro256plusplus.specs.Seed.{wordAt, fourWords};
 use super::Xoshiro256PlusPlus;
 
+// A byte as a u64. Its bound stands in the promise, so that no caller has to show it.
 fn wide(x: u8) -> u64
     ensures { λ r. ⌜ (r ≡ x) × (r < 256) ⌝ }
 {
