@@ -1,4 +1,4 @@
-// The two seedings, which never decline and answer nothing.
+// The two seedings, which never decline and answer nothing. All four words of `state` are written, whatever they were.
 ghost use mathlib.Core.Path.{_≡_};
 ghost use Rattle.capi.specs.State.{words};
 ghost use Rattle.xoshiro256plusplus.specs.Seed.{seeded, fromSeed};

@@ -21,7 +21,7 @@ mul64-lt a b = mod-lt (a * b) (pow-pos 64)
 -- a state of splitmix64 has 64 bits
 pub next-seed-lt : (z : ℕ) → nextSeed z < 2 ^ 64
 unfolding nextSeed
-next-seed-lt z = add64-lt z 0x9e3779b97f4a7c15
+next-seed-lt z = add64-lt z _
 
 -- an output has 64 bits
 pub output-lt : (g : Xoshiro256PlusPlus) → output g < 2 ^ 64

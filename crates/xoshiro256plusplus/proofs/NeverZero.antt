@@ -34,9 +34,9 @@ both false b e = absurd (false≢true e)
 zeros : (g : Xoshiro256PlusPlus) → zeroState g ≡ true → Zeros g
 unfolding zeroState
 zeros g e =
-    let (e0, e123) = both (eqb (g .s0) 0) _ e in
-    let (e1, e23) = both (eqb (g .s1) 0) _ e123 in
-    let (e2, e3) = both (eqb (g .s2) 0) _ e23 in
+    let (e012, e3) = both _ (eqb (g .s3) 0) e in
+    let (e01, e2) = both _ (eqb (g .s2) 0) e012 in
+    let (e0, e1) = both (eqb (g .s0) 0) (eqb (g .s1) 0) e01 in
     record { z0 = eqb-true _ _ e0; z1 = eqb-true _ _ e1; z2 = eqb-true _ _ e2; z3 = eqb-true _ _ e3 }
 
 zero-state : (g : Xoshiro256PlusPlus) → Zeros g → zeroState g ≡ true
@@ -50,13 +50,13 @@ not-zero g f = go (zeroState g) refl
     go true e = absurd (f (zeros g e))
     go false e = refl
 
--- ---- seeding: both multipliers of `mix64` are odd, and their inverses stand beside them
+-- ---- seeding: both multipliers of `mix64` are odd, and these are their inverses
 
 mix64-zero : (z : ℕ) → z < 2 ^ 64 → mix64 z ≡ 0 → z ≡ 0
 unfolding mix64
 mix64-zero z fits e =
-    round-zero 30 0xbf58476d1ce4e5b9 0x96de1b173f119089 z (omega arith) refl fits
-    (round-zero 27 0x94d049bb133111eb 0x319642b2d24d8ec3 _ (omega arith) refl (mul64-lt _ _) (xor-shift-zero 31 _ (omega arith) e))
+    round-zero 30 _ 0x96de1b173f119089 z (omega arith) refl fits
+    (round-zero 27 _ 0x319642b2d24d8ec3 _ (omega arith) refl (mul64-lt _ _) (xor-shift-zero 31 _ (omega arith) e))
 
 -- of two successive states of splitmix64 one is not 0
 from-number : (n : ℕ) → zeroState (seeded n) ≡ false

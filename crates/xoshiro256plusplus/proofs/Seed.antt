@@ -38,7 +38,7 @@ word-zero s at = all-zero-split 8 (drop at s) ∙ rw (← number-zero (take 8 (d
 bytes-zero : (s : List ℕ) → length s ≡ 32 → allZero s ≡ zeroState (fourWords s)
 unfolding zeroState fourWords allZero
 bytes-zero s n =
-    rw (word-zero s 0, word-zero s 8, word-zero s 16, word-zero s 24, drop-of-length-le s {i = 32} (omega arith), and-true)
+    rw (word-zero s 0, word-zero s 8, word-zero s 16, word-zero s 24, drop-of-length-le s {i = 32} (omega arith), and-true) (simp and-assoc)
 
 -- so the two cases of a seeding from bytes can be told by the words
 module _ (s : List ℕ) (n : length s ≡ 32) where

@@ -1,11 +1,14 @@
--- Where a result is 0: xor, a rotation, a shift mixed in and a product by an odd number give 0 from nothing but 0.
+-- Where a result is 0: or, xor, a rotation, a shift mixed in and a product by an odd number.
 -- Assumes nothing.
 use mathlib.Core.Path.{_≡_, refl, sym, ap, _∙_}
+use mathlib.Core.Bool.{_&&_}
 use mathlib.Core.Logic.{⊎-elim}
-use Prim.Native.Nat.{ℕ, _+_, _*_, _/_, _%_, _^_, _<_}
+use Prim.Native.Nat.{ℕ, zero, suc, _+_, _*_, _/_, _%_, _^_, _<_}
 use native.Mathlib.Nat.{eq-zero-or-pos, div-lt-self, lt-of-le-of-lt, mod-lt, mod-eq-of-lt, mul-add-mod-self-right, mul-mod-left, div-add-mod'}
 use native.Mathlib.Omega.{arith}
-use lib.Bits.{bitXor, xor-add-and, and-le-l, and-le-r, xor-lt}
+use borrow.Author.Tests.{ne-eqb}
+use lib.Bits.{bitXor, bitOr, xor-add-and, or-add-and, or-zero-l, and-le-l, and-le-r, xor-lt}
+use lib.Dec.{eqb, eqb·suc-zero}
 use lib.Pow.{pow-pos, pow-lt, shr-le}
 use Rattle.xoshiro256plusplus.specs.Word64.{mul64, shl64, rotl64}
 use Rattle.xoshiro256plusplus.specs.Splitmix64.{xorShift}
@@ -13,6 +16,11 @@ use Rattle.xoshiro256plusplus.specs.Splitmix64.{xorShift}
 -- what differs in no bit is equal
 pub xor-zero : (a b : ℕ) → bitXor a b ≡ 0 → a ≡ b
 xor-zero a b e = omega (arith, xor-add-and a b, and-le-l a b, and-le-r a b)
+
+-- what has no bit is 0 on both sides
+pub or-zero : (a b : ℕ) → eqb (bitOr a b) 0 ≡ eqb a 0 && eqb b 0
+or-zero zero b = ap (λ (n : ℕ). eqb n 0) (or-zero-l b)
+or-zero (suc a) b = rw (ne-eqb (bitOr (suc a) b) 0 (λ z. omega (arith, or-add-and (suc a) b, and-le-r (suc a) b)), eqb·suc-zero a)
 
 -- m has the inverse i modulo n, so a * m is a multiple of n only if a is
 pub product-zero : (n m i a : ℕ) → m * i % n ≡ 1 → a < n → a * m % n ≡ 0 → a ≡ 0

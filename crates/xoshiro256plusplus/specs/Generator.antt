@@ -34,7 +34,7 @@ steps (suc n) g = advance (steps n g)
 
 -- all four words are 0 (document 01: dead generator)
 unfoldable pub zeroState : Xoshiro256PlusPlus → Bool
-zeroState g = eqb (g .s0) 0 && (eqb (g .s1) 0 && (eqb (g .s2) 0 && eqb (g .s3) 0))
+zeroState g = eqb (g .s0) 0 && eqb (g .s1) 0 && eqb (g .s2) 0 && eqb (g .s3) 0
 
 -- what a step with a 64-bit output answers
 pub record Stepped (g : Xoshiro256PlusPlus) (r : Output) : Type 0 where

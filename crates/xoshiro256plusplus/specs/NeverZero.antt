@@ -1,4 +1,4 @@
--- The all-zero state is never met by a caller who seeds: it steps only to itself, and every other state steps to another.
+-- A caller who seeds never meets the all-zero state, from which every output is 0.
 use mathlib.Core.Path.{_≡_}
 use mathlib.Core.Bool.{false}
 use mathlib.Core.List.{List}

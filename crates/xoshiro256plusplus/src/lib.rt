@@ -2,7 +2,7 @@
 ghost use mathlib.Core.Path.{_≡_};
 ghost use Rattle.xoshiro256plusplus.specs.Generator.{Stepped, Worded, zeroState};
 ghost use Rattle.xoshiro256plusplus.specs.Seed.{seeded, fromSeed};
-use little_endian::read_u64;
+use little_endian::read_words;
 use splitmix64::mix64;
 use splitmix64::next_seed;
 use wrapping::rotate_left;
@@ -37,19 +37,15 @@ impl Xoshiro256PlusPlus {
     pub fn from_seed(seed: [u8; 32]) -> Self
         ensures { λ r. ⌜ r ≡ fromSeed seed ⌝ }
     {
-        let state = Xoshiro256PlusPlus {
-            s0: read_u64(&seed, 0),
-            s1: read_u64(&seed, 8),
-            s2: read_u64(&seed, 16),
-            s3: read_u64(&seed, 24),
-        };
+        let state = read_words(&seed);
         if state.is_zero() {
             return Xoshiro256PlusPlus::seed_from_u64(0);
         }
         state
     }
 
-    // The generator whose state is the first four outputs of splitmix64 from `state`: the definition `seeded`. It is never all 0: `never-zero`.
+    // The generator whose state is the first four outputs of splitmix64 from `state`: the definition `seeded`. It is
+    // never all 0: `never-zero`.
     pub fn seed_from_u64(state: u64) -> Self
         ensures { λ r. ⌜ r ≡ seeded state ⌝ }
     {
@@ -65,7 +61,8 @@ impl Xoshiro256PlusPlus {
         }
     }
 
-    // One step: the output (the definition `output`) beside the advanced generator (`advance`). Some fifteen operations, no loop.
+    // One step: the output (the definition `output`) beside the advanced generator (`advance`). A dozen operations; compiled,
+    // no branch.
     pub fn next_u64(self) -> Output
         ensures { λ r. ⌜ Stepped self r ⌝ }
     {
@@ -89,7 +86,7 @@ impl Xoshiro256PlusPlus {
     }
 
     // One step: a word, the upper half of the step's output (the definition `word`), beside the advanced generator. The upper half,
-    // since the lowest bits of an output depend on one another linearly.
+    // since the lowest bits of an output have linear dependencies.
     pub fn next_u32(self) -> Word
         ensures { λ r. ⌜ Worded self r ⌝ }
     {
@@ -102,20 +99,11 @@ impl Xoshiro256PlusPlus {
         }
     }
 
-    // Whether all four words are 0, the one state that steps only to itself: the definition `zeroState`. A caller can hand over such a
-    // generator; seeding never makes one and no step reaches it (`never-zero`).
+    // Whether all four words are 0, a state that steps only to itself: the definition `zeroState`. A caller can hand over such a
+    // generator; no seeding makes one and no step reaches it from another state (`never-zero`).
     pub fn is_zero(self) -> bool
         ensures { λ r. ⌜ r ≡ zeroState self ⌝ }
     {
-        if self.s0 != 0 {
-            return false;
-        }
-        if self.s1 != 0 {
-            return false;
-        }
-        if self.s2 != 0 {
-            return false;
-        }
-        self.s3 == 0
+        (self.s0 | self.s1 | self.s2 | self.s3) == 0
     }
 }

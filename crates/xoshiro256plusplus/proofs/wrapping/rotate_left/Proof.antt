@@ -1,3 +1,4 @@
+-- `rotate_left` meets its contract: the two parts have no bit in common, so that `or` is their sum (`rotated`). Assumes nothing.
 use Prim.Native.Nat.{_-_}
 use native.Mathlib.Omega.{arith}
 use Rattle.xoshiro256plusplus.specs.Word64.{shl64, rotl64}

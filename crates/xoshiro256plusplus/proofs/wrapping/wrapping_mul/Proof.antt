@@ -1,3 +1,4 @@
+-- `wrapping_mul` meets its contract: each product of halves fits, and the lower digits of the whole are `lower-digits`. Assumes nothing.
 use mathlib.Core.Path.{ap, _∙_}
 use Prim.Native.Nat.{ℕ, _+_, _*_, _%_, _^_}
 use native.Mathlib.Omega.{arith}

@@ -1,0 +1,30 @@
+use borrow.Author.Needs.{needs}
+use Rattle.xoshiro256plusplus.specs.Seed.{fourWords}
+use Rattle.xoshiro256plusplus.proofs.little_endian.read_words.Statement.{statement}
+use Rattle.xoshiro256plusplus.proofs.little_endian.read_words.Tie as tie
+
+read-u64-requires : tie.Need-read-u64-requires
+read-u64-requires c κs = search needs
+
+read-u64-requires-2 : tie.Need-read-u64-requires-2
+read-u64-requires-2 c κs = search needs
+
+read-u64-requires-3 : tie.Need-read-u64-requires-3
+read-u64-requires-3 c κs = search needs
+
+read-u64-requires-4 : tie.Need-read-u64-requires-4
+read-u64-requires-4 c κs = search needs
+
+returns : tie.Need-returns
+unfolding fourWords
+returns c = cc
+
+pub read-words-spec : {M : Type 1} → statement M
+read-words-spec =
+    tie.close
+    (tie.spec
+    read-u64-requires
+    read-u64-requires-2
+    read-u64-requires-3
+    read-u64-requires-4
+    returns)
