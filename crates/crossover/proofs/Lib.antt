@@ -1,0 +1,4 @@
+pub mod Digits
+pub mod Casts
+pub mod HandRounding
+pub mod Laws
