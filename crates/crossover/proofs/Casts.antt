@@ -19,7 +19,7 @@ use Rattle.crossover.proofs.Digits.{leading-size}
 
 -- ---- n / unit to the nearest: the quotient or the next number
 
-pub nearest-bounds : (n unit : ℕ) → (n / unit ≤ nearestEven n unit) × (nearestEven n unit ≤ suc (n / unit))
+nearest-bounds : (n unit : ℕ) → (n / unit ≤ nearestEven n unit) × (nearestEven n unit ≤ suc (n / unit))
 unfolding nearestEven
 nearest-bounds n unit = go (n / unit) (ltb (n % unit * 2) unit) (ltb unit (n % unit * 2))
   where
@@ -51,7 +51,7 @@ all-kept n h =
     ap (λ (k : ℕ). nearestEven n (2 ^ k) * 2 ^ k) (sub-eq-zero-of-le h) ∙ mul-one (nearestEven n 1) ∙ simp (mod-one, div-one)
 
 -- of a word of more than 24 digits the unit is from 2 to 256
-pub unit-range : (n : ℕ) → n < 2 ^ 32 → 24 < size n → (1 < unit24 n) × (unit24 n ≤ 256)
+unit-range : (n : ℕ) → n < 2 ^ 32 → 24 < size n → (1 < unit24 n) × (unit24 n ≤ 256)
 unfolding unit24
 unit-range n h l =
     let le : size n ≤ 32 = size-le n 32 h in
