@@ -1,32 +1,23 @@
 -- The rounding by hand, as the code makes it: what is kept and its unit cast without loss, and their product is exact.
 -- Assumes nothing.
 use mathlib.Core.Path.{_≡_, sym, ap, _∙_}
-use mathlib.Core.Bool.{Bool, true, false, cond}
-use Prim.Native.Nat.{ℕ, suc, _+_, _-_, _*_, _/_, _%_, _^_, _≤_, _<_}
+use mathlib.Core.Bool.{false}
+use Prim.Native.Nat.{ℕ, _-_, _*_, _/_, _%_, _^_, _≤_, _<_, compare}
 use native.Mathlib.Nat.{le-trans, le-of-eq, le-of-lt, lt-of-lt-of-le, mul-one, one-mul, mod-one, div-one, div-mul-le-self, mul-le-mul-left, le-div-iff-mul-le, sub-eq-zero-of-le}
 use native.Mathlib.Omega.{arith}
 use lib.Count.{leadingZeros}
-use lib.Dec.{T, ltb, le→leb, lit<, lit≤}
+use lib.Dec.{T, le→leb, lit<, lit≤}
 use lib.IntN.{pos}
 use lib.Pow.{pow-pos, pow-mono, pow-lt, shl-exact}
 use lib.Ieee.{binary32, round, mul, ofInt, inFloat, size}
 use lib.Ieee.Digits.{size-lt, size-le, size-reaches}
-use lib.Ieee.Fits.{kept-lt}
+use lib.Ieee.Fits.{nearest-le, kept-lt}
+use lib.Ieee.Nearest.{nearest-ge}
 use lib.Ieee.Back.{round-whole}
 use lib.Ieee.Positive.{positive-of-value, mul-at}
 use Rattle.crossover.specs.Rounding.{nearestEven, unit24, round24, f32Of}
 use Rattle.crossover.proofs.Digits.{leading-size}
-
--- ---- n / unit to the nearest: the quotient or the next number
-
-pub nearest-bounds : (n unit : ℕ) → (n / unit ≤ nearestEven n unit) × (nearestEven n unit ≤ suc (n / unit))
-unfolding nearestEven
-nearest-bounds n unit = go (n / unit) (ltb (n % unit * 2) unit) (ltb unit (n % unit * 2))
-  where
-    go : (q : ℕ) (a b : Bool) → (q ≤ cond a q (cond b (q + 1) (q + q % 2))) × (cond a q (cond b (q + 1) (q + q % 2)) ≤ suc q)
-    go q true b = (omega arith, omega arith)
-    go q false true = (omega arith, omega arith)
-    go q false false = (omega arith, omega arith)
+use Rattle.crossover.proofs.Nearest.{closest-is}
 
 -- a quotient by 2 or more is at most half
 pub half : (n unit : ℕ) → 1 < unit → n / unit * 2 ≤ n
@@ -36,13 +27,14 @@ half n unit h = le-trans (mul-le-mul-left (n / unit) h) (div-mul-le-self n unit)
 
 pub kept-le : (n : ℕ) → nearestEven n (unit24 n) ≤ 2 ^ 24
 unfolding unit24
-kept-le n = le-trans (nearest-bounds n (unit24 n) .1) (kept-lt 24 n)
+kept-le n = rw closest-is (le-trans (nearest-le (n / unit24 n) (compare (n % unit24 n * 2) (unit24 n))) (kept-lt 24 n))
 
 kept-pos : (n : ℕ) → 24 < size n → 0 < nearestEven n (unit24 n)
 unfolding unit24
 kept-pos n h =
     let reached : 2 ^ (size n - 24) ≤ n = size-reaches n (size n - 24) (omega arith) in
-    lt-of-lt-of-le (le-div-iff-mul-le (pow-pos (size n - 24)) .1 (le-trans (le-of-eq (one-mul (unit24 n))) reached)) (nearest-bounds n (unit24 n) .0)
+    let some : 0 < n / unit24 n = le-div-iff-mul-le (pow-pos (size n - 24)) .1 (le-trans (le-of-eq (one-mul (unit24 n))) reached) in
+    rw closest-is (lt-of-lt-of-le some (nearest-ge (n / unit24 n) (compare (n % unit24 n * 2) (unit24 n))))
 
 -- up to 24 digits all are kept
 pub all-kept : (n : ℕ) → size n ≤ 24 → round24 n ≡ n
@@ -51,7 +43,7 @@ all-kept n h =
     ap (λ (k : ℕ). nearestEven n (2 ^ k) * 2 ^ k) (sub-eq-zero-of-le h) ∙ mul-one (nearestEven n 1) ∙ simp (mod-one, div-one)
 
 -- of a word of more than 24 digits the unit is from 2 to 256
-pub unit-range : (n : ℕ) → n < 2 ^ 32 → 24 < size n → (1 < unit24 n) × (unit24 n ≤ 256)
+unit-range : (n : ℕ) → n < 2 ^ 32 → 24 < size n → (1 < unit24 n) × (unit24 n ≤ 256)
 unfolding unit24
 unit-range n h l =
     let le : size n ≤ 32 = size-le n 32 h in

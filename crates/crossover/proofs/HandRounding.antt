@@ -2,52 +2,26 @@
 -- Assumes nothing.
 use mathlib.Core.Path.{_≡_, refl, sym, ap, _∙_, subst}
 use mathlib.Core.Logic.{_⊎_, inl, inr}
-use mathlib.Core.Bool.{Bool, true, false, not, cond}
-use Prim.Native.Nat.{ℕ, _+_, _-_, _*_, _/_, _%_, _^_, _≤_, _<_, compare, Ordering, Ordering·lt, Ordering·eq, Ordering·gt}
-use native.Mathlib.Nat.{le-trans, le-of-eq, le-of-lt, lt-of-lt-of-le, lt-of-le-of-lt, eq-or-lt-of-le, mul-one, one-mul, mul-assoc, mul-right-comm, mul-pos, mul-le-mul, mul-le-mul-right, div-one, eq-of-mul-eq-mul-right}
-use native.Mathlib.Numerals.{add-one}
+use mathlib.Core.Bool.{Bool, true, false}
+use Prim.Native.Nat.{ℕ, _+_, _-_, _*_, _/_, _^_, _≤_, _<_}
+use native.Mathlib.Nat.{le-trans, le-of-eq, lt-of-lt-of-le, lt-of-le-of-lt, eq-or-lt-of-le, mul-one, one-mul, mul-assoc, mul-right-comm, mul-pos, mul-le-mul, mul-le-mul-right, div-one, eq-of-mul-eq-mul-right}
 use native.Mathlib.Omega.{arith}
-use lib.Arith.{lt-of-le-ne}
-use lib.Dec.{T, isLe, isEq, ltb, eqb, leb→le, nleb→lt, eqb→eq, eqb-refl, lit<, lit≤}
+use lib.Dec.{ltb, lit<, lit≤}
 use lib.IntN.{pos}
 use lib.Pow.{pow-add, pow-pos, pow-mono, pow-lt, shl-lt}
-use lib.Ieee.{Float, nan, inf, fin, binary32, up, down, size, nearest, round, ofInt}
+use lib.Ieee.{Float, nan, inf, fin, binary32, up, down, size, round, ofInt}
 use lib.Ieee.Digits.{size-le}
 use lib.Ieee.Fits.{round-fits}
 use lib.Ieee.Exact.{HasValue, round-exact}
 use lib.Ieee.Nearest.{closest, closest-same}
 use lib.Ieee.Scale.{grid, round-val}
 use lib.Ieee.Back.{whole-unique}
-use borrow.Author.Tests.{lt-ltb, le-ltb, ltb-true, ltb-false}
+use borrow.Author.Tests.{ltb-true, ltb-false}
 use Rattle.crossover.specs.Rounding.{nearestEven, unit24, round24, f32Of}
 use Rattle.crossover.specs.HandRounding.{HandRounding}
 use Rattle.crossover.proofs.Digits.{size-shift}
+use Rattle.crossover.proofs.Nearest.{closest-is}
 use Rattle.crossover.proofs.Casts.{kept-le, all-kept}
-
--- ---- the tests of `nearestEven` are those of `lib.Ieee`
-
--- what `compare` says
-abbrev Compared : Ordering → ℕ → ℕ → Type 0
-Compared Ordering·lt a b = a < b
-Compared Ordering·eq a b = a ≡ b
-Compared Ordering·gt a b = b < a
-
-compared : (a b : ℕ) → Compared (compare a b) a b
-compared a b = go (compare a b) (leb→le a b) (nleb→lt a b) (eqb→eq a b) (λ (e : a ≡ b). subst (λ (x : ℕ). T (eqb a x)) e (eqb-refl a))
-  where
-    go : (o : Ordering) → (T (isLe o) → a ≤ b) → (T (not (isLe o)) → b < a) → (T (isEq o) → a ≡ b) → (a ≡ b → T (isEq o)) → Compared o a b
-    go Ordering·lt h k e n = lt-of-le-ne (h tt) n
-    go Ordering·eq h k e n = e tt
-    go Ordering·gt h k e n = k tt
-
-nearest-is : (q a b : ℕ) (o : Ordering) → Compared o a b → cond (ltb a b) q (cond (ltb b a) (q + 1) (q + q % 2)) ≡ nearest q o
-nearest-is q a b Ordering·lt h = simp (lt-ltb _ _ h)
-nearest-is q a b Ordering·eq h = simp (le-ltb a b (le-of-eq (sym h)), le-ltb b a (le-of-eq h))
-nearest-is q a b Ordering·gt h = simp (le-ltb a b (le-of-lt h), lt-ltb b a h) (add-one q)
-
-closest-is : (n unit : ℕ) → nearestEven n unit ≡ closest n unit
-unfolding nearestEven
-closest-is n unit = nearest-is (n / unit) (n % unit * 2) unit (compare (n % unit * 2) unit) (compared (n % unit * 2) unit)
 
 -- ---- IEEE's value, in units of the format's smallest, 2 ^ -149: the same digits are kept
 

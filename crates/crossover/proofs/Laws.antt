@@ -8,7 +8,6 @@ use lib.Dec.{ltb}
 use borrow.Author.Tests.{lt-ltb, le-ltb}
 use Rattle.crossover.specs.Lines.{lineOf, ratioOf, belowLine, belowRatio}
 use Rattle.crossover.specs.Method.{methodOf}
-use Rattle.crossover.specs.declared.Method.{Method}
 use Rattle.crossover.specs.declared.Method.the-variants.{Floyd, InPlace, Rejection}
 
 module _ (length amount : ℕ) where

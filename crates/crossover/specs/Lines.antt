@@ -10,6 +10,10 @@ use Rattle.crossover.specs.declared.lines.Line.{Line}
 unfoldable pub fraction : (a b : ℕ) → Float
 fraction a b = round binary32 false a b
 
+-- a length of the lower class, below 500,000
+unfoldable pub isShort : (length : ℕ) → Bool
+isShort length = ltb length 500000
+
 -- 1.6 and 10
 unfoldable pub shortLine : Line
 shortLine = record { slope = fraction 16 10; base = fraction 10 1 }
@@ -22,18 +26,18 @@ longLine =
       base = div binary32 (fraction 70 1) (fraction 9 1);
     }
 
--- the crossover line of a length
+-- the line of a length's class
 unfoldable pub lineOf : (length : ℕ) → Line
-lineOf length = cond (ltb length 500000) shortLine longLine
+lineOf length = cond (isShort length) shortLine longLine
 
 -- length < (base + slope * amount) * amount
 unfoldable pub belowLine : (length amount : ℕ) → Line → Bool
 belowLine length amount line =
     lt (f32Of length) (mul binary32 (add binary32 (line .base) (mul binary32 (line .slope) (f32Of amount))) (f32Of amount))
 
--- 270, or from length 500,000 on 330 / 9, divided in f32
+-- 270, or 330 / 9 divided in f32
 unfoldable pub ratioOf : (length : ℕ) → Float
-ratioOf length = cond (ltb length 500000) (fraction 270 1) (div binary32 (fraction 330 1) (fraction 9 1))
+ratioOf length = cond (isShort length) (fraction 270 1) (div binary32 (fraction 330 1) (fraction 9 1))
 
 -- length < ratio * amount
 unfoldable pub belowRatio : (length amount : ℕ) → Float → Bool

@@ -1,5 +1,6 @@
-// Which of the three sampling methods a length and an amount get, as in rand's `index::sample`. rand measured where one method
-// becomes faster than another; the answer decides which words are read, so the same floats are computed in the same order.
+// The crossover: which of the three methods samples so many indices out of a length, as in rand's `index::sample`. rand measured
+// where one method becomes faster than another. The choice decides which words a sample reads and which indices they give, so it
+// is made with rand's floats, bit for bit.
 ghost use mathlib.Core.Path.{_≡_};
 ghost use Rattle.crossover.specs.Method.{methodOf};
 use lines::below_line;
@@ -17,8 +18,8 @@ pub enum Method {
     Rejection,
 }
 
-// The method for an amount out of a length, whatever the two are: the definition `methodOf`. Some ten operations and no loop; only
-// the range of the amount is looked at where it is below 12.
+// The method for `amount` indices out of `length`, whatever the two are: the definition `methodOf`. The amount's range gives the rule
+// that picks it. Two conversions and a few operations on floats, no loop; below amount 12 not even these.
 pub fn choose_method(length: u32, amount: u32) -> Method
     ensures { λ m. ⌜ m ≡ methodOf length amount ⌝ }
 {

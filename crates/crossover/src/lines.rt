@@ -1,7 +1,10 @@
-// The two comparisons of the crossover and their constants, one of each for the lengths below 500,000 and one from there on.
+// The two comparisons of the crossover, with their constants for each class of lengths.
 ghost use mathlib.Core.Path.{_≡_};
 ghost use Rattle.crossover.specs.Lines.{lineOf, ratioOf, belowLine, belowRatio};
 use super::rounding::round_to_f32;
+
+// The first length of the upper class.
+const LONG_FROM: u32 = 500_000;
 
 // A crossover line (document 01), for amounts 12 to 162.
 pub struct Line {
@@ -19,19 +22,20 @@ const LONG_LINE: Line = Line {
     base: 70.0 / 9.0,
 };
 
-// The line of a length's class: the definition `lineOf`. No choice shows what the long line's constants are (from 500,000 on every
-// amount up to 162 is far below it), so this contract is what holds them.
+// The line of a length's class: the definition `lineOf`. No choice depends on the long line's constants, as every length of its class
+// lies above the line at amounts up to 162; so it is this contract that keeps them right.
 pub fn line_of(length: u32) -> Line
     ensures { λ l. ⌜ l ≡ lineOf length ⌝ }
 {
-    if length < 500_000 {
+    if length < LONG_FROM {
         SHORT_LINE
     } else {
         LONG_LINE
     }
 }
 
-// Whether the length lies below the line at this amount: the definition `belowLine`. Each operation is rounded once, in this order.
+// Whether the length lies below the line at this amount, and so the in-place method is due: the definition `belowLine`. Each operation
+// is rounded once, in this order.
 pub fn below_line(length: u32, amount: u32, line: Line) -> bool
     ensures { λ b. ⌜ b ≡ belowLine length amount line ⌝ }
 {
@@ -48,14 +52,15 @@ const LONG_RATIO: f32 = 330.0 / 9.0;
 pub fn ratio_of(length: u32) -> f32
     ensures { λ c. ⌜ c ≡ ratioOf length ⌝ }
 {
-    if length < 500_000 {
+    if length < LONG_FROM {
         SHORT_RATIO
     } else {
         LONG_RATIO
     }
 }
 
-// Whether the length is below `ratio` times the amount: the definition `belowRatio`. The product is rounded once.
+// Whether the length is below `ratio` times the amount, and so the in-place method is due: the definition `belowRatio`. The product is
+// rounded once.
 pub fn below_ratio(length: u32, amount: u32, ratio: f32) -> bool
     ensures { λ b. ⌜ b ≡ belowRatio length amount ratio ⌝ }
 {

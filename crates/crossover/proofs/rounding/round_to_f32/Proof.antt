@@ -1,6 +1,5 @@
 -- `round_to_f32` meets its contract: by `few-cast` up to 24 digits, else by `many-cast`. Assumes nothing.
-use mathlib.Core.Path.{sym}
-use Prim.Native.Nat.{_^_, _≤_, _<_}
+use Prim.Native.Nat.{_^_, _<_}
 use native.Mathlib.Nat.{le-trans}
 use borrow.Author.Needs.{needs}
 use lib.Dec.{lit≤}
