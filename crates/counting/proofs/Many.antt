@@ -7,12 +7,12 @@ use Prim.Native.Nat.{ℕ, zero, suc, _+_, _≤_, _<_, zero-le}
 use native.Mathlib.Nat.{zero-add}
 use native.Mathlib.Numerals.{one-add}
 use native.Mathlib.Omega.{arith}
-use lib.Dec.{eqb}
+use lib.Dec.{ltb, eqb}
 use lib.ListN.{length, take, drop, getD, set, length-set, take-append-drop}
 use lib.Seq.{getD-set-same, getD-set-other}
-use borrow.Author.Tests.{eq-eqb, eqb-true, eqb-false}
+use borrow.Author.Tests.{eq-eqb, eqb-true, eqb-false, ltb-true, ltb-false}
 use Rattle.counting.specs.Count.{oneIf, sum, count}
-use Rattle.counting.specs.Lists.{member, howMany, swapAt, Distinct}
+use Rattle.counting.specs.Lists.{member, howMany, swapAt, Distinct, Below}
 use Rattle.counting.proofs.Tests.{is-false, or-false}
 use Rattle.counting.proofs.Sums.{sum-cong, sum-split}
 
@@ -90,3 +90,12 @@ many-places a (x ∷ l) =
     ∙ sum-split (λ d. oneIf (eqb a (getD (x ∷ l) d 0))) 1 (length l)
     ∙ ap₂ _+_ (zero-add (oneIf (eqb a x)))
     (sum-cong (λ d. oneIf (eqb a (getD (x ∷ l) (1 + d) 0))) (λ d. oneIf (eqb a (getD l d 0))) (length l) (λ d h. rw one-add) ∙ many-places a l)
+
+-- numbers from n on stand nowhere in a list whose entries are below n, and only there
+pub many-below : (n : ℕ) (l : List ℕ) → ((a : ℕ) → n ≤ a → howMany a l ≡ 0) → Below n l
+many-below n [] h = tt
+many-below n (x ∷ l) h = (here (ltb x n) refl, many-below n l (λ a g. omega (arith, h a g)))
+  where
+    here : (b : Bool) → ltb x n ≡ b → x < n
+    here true e = ltb-true x n e
+    here false e = absurd (omega (arith, h x (ltb-false x n e), ap oneIf (eq-eqb x x refl)))

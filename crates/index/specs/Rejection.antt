@@ -37,11 +37,11 @@ foundFrom r held zero n g k = record { indices = held; all = true; words = k; rn
 foundFrom r held (suc w) zero g k = record { indices = held; all = false; words = k; rng = g }
 foundFrom r held (suc w) (suc n) g k =
     elim (accepts (2 ^ 32) r (2 ^ 32 % r) (word g)) [
-      true ↦ elim (member (scaled (2 ^ 32) r (word g)) held) [
-        true ↦ foundFrom r held (suc w) n (advance g) (suc k)
-      | false ↦ foundFrom r (held ++ (scaled (2 ^ 32) r (word g) ∷ [])) w n (advance g) (suc k)
+      | true ↦ elim (member (scaled (2 ^ 32) r (word g)) held) [
+        | true ↦ foundFrom r held (suc w) n (advance g) (suc k)
+        | false ↦ foundFrom r (held ++ (scaled (2 ^ 32) r (word g) ∷ [])) w n (advance g) (suc k)
       ]
-    | false ↦ foundFrom r held (suc w) n (advance g) (suc k)
+      | false ↦ foundFrom r held (suc w) n (advance g) (suc k)
     ]
 
 -- the values of the words that a rejecting draw below r accepts, of the next n
@@ -49,8 +49,8 @@ unfoldable pub acceptedOf : (r n : ℕ) → Xoshiro256PlusPlus → List ℕ
 acceptedOf r zero g = []
 acceptedOf r (suc n) g =
     elim (accepts (2 ^ 32) r (2 ^ 32 % r) (word g)) [
-      true ↦ scaled (2 ^ 32) r (word g) ∷ acceptedOf r n (advance g)
-    | false ↦ acceptedOf r n (advance g)
+      | true ↦ scaled (2 ^ 32) r (word g) ∷ acceptedOf r n (advance g)
+      | false ↦ acceptedOf r n (advance g)
     ]
 
 -- the sample of so many indices below n within a budget

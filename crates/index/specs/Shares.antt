@@ -2,7 +2,7 @@
 use mathlib.Core.Path.{_≡_}
 use mathlib.Core.Bool.{Bool, true, false}
 use mathlib.Core.List.{List, []}
-use mathlib.Core.Option.{some}
+use mathlib.Core.Option.{none, some}
 use Prim.Native.Nat.{ℕ, _≤_, _<_}
 use lib.ListN.{length, take, replicate}
 use Rattle.counting.specs.Count.{countLists}
@@ -35,6 +35,8 @@ pub record IndexShares : Type 0 where
   pub floyd-sample : (n amount : ℕ) (ds : List ℕ) → amount ≤ n → Within ds (floydBounds n amount) → SampleOf n amount (floydOf n amount ds)
   pub in-place-sample : (n amount : ℕ) (ds : List ℕ) → amount ≤ n → Within ds (falling n amount) → SampleOf n amount (take amount (arranged n ds))
   pub rejection-sample : (n amount : ℕ) (ds l : List ℕ) → Below n ds → rejectionOf amount ds ≡ some l → SampleOf n amount l
-  -- a rejection sample read from a generator is complete exactly where the accepted words give one, and is that one
-  pub words-give : (n amount budget : ℕ) (g : Xoshiro256PlusPlus)
-      → gives (rejectionOf amount (acceptedOf n budget g)) (foundOf n amount budget g .Rattle.index.specs.Rejection.Found.indices) ≡ foundOf n amount budget g .Rattle.index.specs.Rejection.Found.all
+  -- what is found while words are read is the sample that the accepted words give, and where it is not all, they give none
+  pub words-give : (n amount budget : ℕ) (g : Xoshiro256PlusPlus) → foundOf n amount budget g .all ≡ true
+      → rejectionOf amount (acceptedOf n budget g) ≡ some (foundOf n amount budget g .indices)
+  pub words-lack : (n amount budget : ℕ) (g : Xoshiro256PlusPlus) → foundOf n amount budget g .all ≡ false
+      → rejectionOf amount (acceptedOf n budget g) ≡ none
