@@ -7,15 +7,16 @@ use native.Mathlib.Nat.{zero-add, add-zero, sub-zero}
 use native.Mathlib.Numerals.{add-one}
 use native.Mathlib.Omega.{arith}
 use lib.ListN.{length, take, drop, getD, set, length-set, length-append, length-drop}
-use lib.Seq.{length-take-le, take-suc, take-at, drop-at, drop-drop, drop-cons}
+use lib.Seq.{length-take-le, take-append-le, take-suc, take-at, drop-at, drop-drop, drop-cons}
 use Rattle.counting.specs.Lists.{swapAt, Within}
 use Rattle.counting.proofs.Many.{length-swap}
 use Rattle.xoshiro256plusplus.specs.declared.Xoshiro256PlusPlus.{Xoshiro256PlusPlus}
 use Rattle.uniform_int.specs.Bounded.{bounded}
 use Rattle.uniform_int.specs.Draws.{Draws, draws, before}
-use Rattle.uniform_int.proofs.Laws.{words-le, draws-nil, draws-cons}
+use Rattle.uniform_int.proofs.Laws.{Positive, words-le, draws-cons}
 use Rattle.index.specs.InPlace.{upTo, swapsFrom, arranged, falling}
 use Rattle.index.proofs.InPlaceShares.{length-upTo}
+use Rattle.index.proofs.Samples.{swaps-keep}
 
 -- ---- a front that grows: counting up, and copying
 
@@ -54,6 +55,11 @@ one-draw n amount i g h =
     let e : amount - i ≡ suc (amount - (i + 1)) = omega arith in
     let f : n - i - 1 ≡ n - (i + 1) = omega arith in
     rw e (draws-cons (n - i) (falling (n - i - 1) (amount - (i + 1))) g ∙ ap (λ (m : ℕ). before (bounded (n - i) g .value) (bounded (n - i) g .words) (draws (falling m (amount - (i + 1))) (bounded (n - i) g .rng))) f)
+
+pub falling-positive : (n amount : ℕ) → amount ≤ n → Positive (falling n amount)
+unfolding falling
+falling-positive n zero h = tt
+falling-positive n (suc amount) h = (omega arith, falling-positive (n - 1) amount (omega arith))
 
 -- before the exchange at i: what is left to do gives the whole
 pub record Turn (n amount : ℕ) (g₀ : Xoshiro256PlusPlus) (l₀ : List ℕ) (g : Xoshiro256PlusPlus) (l : List ℕ) (words i : ℕ) : Type 0 where
@@ -125,3 +131,27 @@ swaps-append zero i n l r [] e le w = refl
 swaps-append (suc m) i n l r (d ∷ ds) e le w =
     ap (λ (z : List ℕ). swapsFrom (suc i) z ds) (swap-append l r i (i + d) (omega (arith, w .0)) (omega (arith, w .0)))
     ∙ swaps-append m (suc i) (n - 1) (swapAt i (i + d) l) r ds (omega (arith, length-swap i (i + d) l)) (omega arith) (w .1)
+
+-- ---- the whole: counted up, exchanged and copied
+
+pub record Steps (n amount : ℕ) (ds before work l₁ l₂ l₃ : List ℕ) : Type 0 where
+  pub counted : l₁ ≡ upTo n ++ drop n work
+  pub swapped : l₂ ≡ swapsFrom 0 l₁ ds
+  pub copied : l₃ ≡ take amount l₂ ++ drop amount before
+
+module _ (n amount : ℕ) (ds before work l₁ l₂ l₃ : List ℕ) (le : amount ≤ n) (w : Within ds (falling n amount))
+    (s : Steps n amount ds before work l₁ l₂ l₃) where
+  pub arranged-scratch : l₂ ≡ arranged n ds ++ drop n work
+  unfolding arranged
+  arranged-scratch =
+      s .swapped
+      ∙ ap (λ (l : List ℕ). swapsFrom 0 l ds) (s .counted)
+      ∙ swaps-append amount 0 n (upTo n) (drop n work) ds (omega (arith, length-upTo n)) le w
+
+  pub arranged-indices : l₃ ≡ take amount (arranged n ds) ++ drop amount before
+  unfolding arranged
+  arranged-indices =
+      let size = swaps-keep amount 0 n 0 (upTo n) ds (omega (arith, length-upTo n)) le w .0 in
+      s .copied
+      ∙ ap (λ (l : List ℕ). take amount l ++ drop amount before) arranged-scratch
+      ∙ ap (λ (l : List ℕ). l ++ drop amount before) (take-append-le amount (swapsFrom 0 (upTo n) ds) (drop n work) (omega (arith, size, length-upTo n)))

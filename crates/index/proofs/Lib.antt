@@ -7,3 +7,5 @@ pub mod Words
 pub mod Shares
 pub mod FloydTurns
 pub mod InPlaceTurns
+pub mod SeenBits
+pub mod RejectionTurns

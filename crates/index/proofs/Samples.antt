@@ -62,7 +62,7 @@ floyd-sample n amount ds le w =
 -- ---- in place
 
 -- swaps keep the length, and how often each number stands there
-swaps-keep : (m i n a : ℕ) (l ds : List ℕ) → i + n ≡ length l → m ≤ n → Within ds (falling n m)
+pub swaps-keep : (m i n a : ℕ) (l ds : List ℕ) → i + n ≡ length l → m ≤ n → Within ds (falling n m)
     → (length (swapsFrom i l ds) ≡ length l) × (howMany a (swapsFrom i l ds) ≡ howMany a l)
 unfolding swapsFrom falling
 swaps-keep zero i n a l [] e le w = (refl, refl)

@@ -1,35 +1,47 @@
+-- `sample_inplace` meets its contract: the three steps give the arrangement. Assumes nothing.
+use native.Mathlib.Omega.{arith}
+use denote.Ref.{now}
+use Rattle.uniform_int.specs.Draws.{draws}
+use Rattle.uniform_int.proofs.Laws.{draws-within}
+use Rattle.index.specs.InPlace.{falling}
+use Rattle.index.proofs.InPlaceTurns.{falling-positive, Steps, arranged-indices, arranged-scratch}
 use borrow.Author.Needs.{needs}
 use Rattle.index.proofs.in_place.sample_inplace.Statement.{statement}
 use Rattle.index.proofs.in_place.sample_inplace.Tie as tie
-use Rattle.index.proofs.in_place.sample_inplace.Reads as reads
-use Rattle.index.proofs.in_place.sample_inplace.Lts as lts
-use Rattle.index.proofs.in_place.copy_front.Reads as copy-front-reads
-use Rattle.index.proofs.in_place.count_up.Reads as count-up-reads
-use Rattle.index.proofs.in_place.swap_front.Reads as swap-front-reads
 
--- src/in_place.rt:69:5
 count-up-requires : tie.Need-count-up-requires
 count-up-requires c κs = search needs
 
--- src/in_place.rt:70:9
 swap-front-requires : tie.Need-swap-front-requires
 swap-front-requires c κs = search needs
 
--- src/in_place.rt:71:5
 copy-front-requires : tie.Need-copy-front-requires
 copy-front-requires c κs = search needs
 
--- src/in_place.rt:59:1
 same-length : tie.Need-same-length
 same-length c = search needs
 
--- src/in_place.rt:59:1
 same-length-2 : tie.Need-same-length-2
 same-length-2 c = search needs
 
--- src/in_place.rt:59:1
 returns : tie.Need-returns
-returns c = ?
+returns c =
+    let a = c .before .before .before .before .before .before .before .before .before .before .before .before .before .before .before .args in
+    let swapped = c .before .before .before .before .before .before .before .swap-front .ensures in
+    let ds = draws (falling (a .length) (a .amount)) (a .rng) .values in
+    let within = draws-within (falling (a .length) (a .amount)) (a .rng) (falling-positive (a .length) (a .amount) (omega arith)) in
+    let steps : Steps (a .length) (a .amount) ds (now (a .indices)) (now (a .scratch)) _ _ _ =
+    record {
+      counted = c .before .before .before .before .before .before .before .before .before .before .before .count-up .ensures;
+      swapped = swapped .scratch;
+      copied = c .before .before .copy-front .ensures;
+    } in
+    record {
+      indices = arranged-indices (a .length) (a .amount) ds (now (a .indices)) (now (a .scratch)) _ _ _ (omega arith) within steps;
+      scratch = arranged-scratch (a .length) (a .amount) ds (now (a .indices)) (now (a .scratch)) _ _ _ (omega arith) within steps;
+      words = swapped .words;
+      rng = swapped .rng;
+    }
 
 pub sample-inplace-spec : {M : Type 1} → statement M
 sample-inplace-spec =
