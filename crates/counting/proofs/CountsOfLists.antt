@@ -3,9 +3,10 @@
 use mathlib.Core.Path.{_≡_, refl, sym, ap, _∙_}
 use mathlib.Core.Bool.{Bool}
 use mathlib.Core.List.{List, [], _∷_}
-use Prim.Native.Nat.{ℕ, _*_, _<_}
-use native.Mathlib.Nat.{mul-one}
+use Prim.Native.Nat.{ℕ, zero, suc, _*_, _<_}
+use native.Mathlib.Nat.{mul-one, mul-pos}
 use native.Mathlib.Omega.{arith}
+use lib.ListN.{replicate}
 use Rattle.counting.specs.Count.{oneIf, sum, countLists, product}
 use Rattle.counting.specs.Lists.{Within}
 use Rattle.counting.proofs.Sums.{sum-cong, sum-const}
@@ -26,3 +27,9 @@ pub lists-all : (c : Bool) (bs : List ℕ) → countLists (λ ds. c) bs ≡ oneI
 unfolding countLists product
 lists-all c [] = sym (mul-one (oneIf c))
 lists-all c (b ∷ bs) = ap (λ (x : ℕ). sum (λ d. x) b) (lists-all c bs) ∙ sum-const (oneIf c * product bs) b ∙ omega arith
+
+-- m bounds of n each, n at least 1, leave at least one list
+pub product-pos : (n m : ℕ) → 0 < n → 0 < product (replicate m n)
+unfolding product
+product-pos n zero h = omega arith
+product-pos n (suc m) h = mul-pos h (product-pos n m h)

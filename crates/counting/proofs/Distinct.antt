@@ -84,3 +84,15 @@ count-member n (x ∷ xs) h b =
     apart : (d : ℕ) (c : Bool) → eqb d x ≡ c → oneIf (eqb d x || member d xs) ≡ oneIf (eqb d x) + oneIf (member d xs)
     apart d true e = rw (e, eqb-true d x e, h .0)
     apart d false e = rw e (omega arith)
+
+pub snoc-distinct : (xs : List ℕ) (d : ℕ) → Distinct xs → member d xs ≡ false → Distinct (xs ++ (d ∷ []))
+snoc-distinct [] d h m = (refl, tt)
+snoc-distinct (x ∷ xs) d h m =
+    let u = or-false (eqb d x) (member d xs) m in
+    (snoc-member x xs d (h .0) (eqb-sym x d ∙ u .0), snoc-distinct xs d (h .1) (u .1))
+  where
+    snoc-member : (a : ℕ) (xs : List ℕ) (d : ℕ) → member a xs ≡ false → eqb a d ≡ false → member a (xs ++ (d ∷ [])) ≡ false
+    snoc-member a [] d h e = false-or (eqb a d) false e refl
+    snoc-member a (x ∷ xs) d h e =
+        let u = or-false (eqb a x) (member a xs) h in
+        false-or (eqb a x) (member a (xs ++ (d ∷ []))) (u .0) (snoc-member a xs d (u .1) e)

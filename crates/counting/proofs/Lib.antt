@@ -4,3 +4,4 @@ pub mod Counts
 pub mod CountsOfLists
 pub mod Same
 pub mod Distinct
+pub mod Many

@@ -1,7 +1,7 @@
 -- Laws of sameness, and of a list's last entry.
 -- Assumes nothing.
 use mathlib.Core.Path.{_≡_, refl, ap, ap₂}
-use mathlib.Core.Bool.{true, false, false≢true}
+use mathlib.Core.Bool.{true, false, _&&_, false≢true}
 use mathlib.Core.List.{List, [], _∷_, _++_}
 use Prim.Native.Nat.{ℕ, suc}
 use native.Mathlib.Omega.{arith}
@@ -47,3 +47,11 @@ snoc-of (x ∷ []) n e = ([], x, refl, omega arith)
 snoc-of (x ∷ y ∷ l) n e =
     let r = snoc-of (y ∷ l) (length l) refl in
     (x ∷ r .0, r .1, ap (λ (z : List ℕ). x ∷ z) (r .2), omega (arith, r .3))
+
+-- lists with a last entry are equal if the entries before are, and the last ones
+pub same-snoc : (xs ys : List ℕ) (a b : ℕ) → same (xs ++ (a ∷ [])) (ys ++ (b ∷ [])) ≡ same xs ys && eqb a b
+same-snoc xs ys a b =
+    iff-bool (same (xs ++ (a ∷ [])) (ys ++ (b ∷ []))) (same xs ys && eqb a b)
+    (λ t. let u = snoc-inj xs ys a b (same-true (xs ++ (a ∷ [])) (ys ++ (b ∷ [])) t) in rw (eq-same xs ys (u .0), eq-eqb a b (u .1)))
+    (λ t. let u = and-true (same xs ys) (eqb a b) t in
+    eq-same (xs ++ (a ∷ [])) (ys ++ (b ∷ [])) (ap₂ (λ (l : List ℕ) (y : ℕ). l ++ (y ∷ [])) (same-true xs ys (u .0)) (eqb-true a b (u .1))))

@@ -2,8 +2,10 @@
 use mathlib.Core.Path.{_≡_}
 use mathlib.Core.Bool.{Bool, true, false, _&&_, _||_}
 use mathlib.Core.List.{List, [], _∷_}
-use Prim.Native.Nat.{ℕ, _<_}
+use Prim.Native.Nat.{ℕ, _+_, _<_}
 use lib.Dec.{eqb}
+use lib.ListN.{getD, set}
+use Rattle.counting.specs.Count.{oneIf}
 
 -- whether two lists are equal
 abbrev pub same : List ℕ → List ℕ → Bool
@@ -16,6 +18,15 @@ same (x ∷ xs) (y ∷ ys) = eqb x y && same xs ys
 abbrev pub member : ℕ → List ℕ → Bool
 member a [] = false
 member a (x ∷ xs) = eqb a x || member a xs
+
+-- how often a stands in the list
+abbrev pub howMany : ℕ → List ℕ → ℕ
+howMany a [] = 0
+howMany a (x ∷ xs) = oneIf (eqb a x) + howMany a xs
+
+-- the entries at i and j, exchanged
+abbrev pub swapAt : ℕ → ℕ → List ℕ → List ℕ
+swapAt i j l = set (set l i (getD l j 0)) j (getD l i 0)
 
 -- no entry twice
 abbrev pub Distinct : List ℕ → Type 0

@@ -1,0 +1,5 @@
+pub mod Digits
+pub mod Nearest
+pub mod Casts
+pub mod HandRounding
+pub mod Laws

@@ -1,0 +1,4 @@
+pub mod Rounding
+pub mod HandRounding
+pub mod Lines
+pub mod Method

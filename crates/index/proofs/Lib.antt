@@ -1,0 +1,12 @@
+pub mod Replaced
+pub mod FloydShares
+pub mod InPlaceShares
+pub mod RejectionShares
+pub mod Samples
+pub mod Words
+pub mod Shares
+pub mod FloydTurns
+pub mod InPlaceTurns
+pub mod SeenBits
+pub mod RejectionTurns
+pub mod Cases

@@ -1,0 +1,6 @@
+pub mod Floyd
+pub mod InPlace
+pub mod Rejection
+pub mod Seen
+pub mod Sample
+pub mod Shares

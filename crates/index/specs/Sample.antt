@@ -1,0 +1,113 @@
+-- What a sample leaves behind: the answer, the words read, the generator and both slices.
+use mathlib.Core.Path.{_≡_}
+use mathlib.Core.Bool.{Bool, true, false, cond}
+use mathlib.Core.List.{List, [], _∷_, _++_}
+use Prim.Native.Nat.{ℕ, _-_, _^_}
+use lib.Dec.{ltb}
+use lib.ListN.{length, take, drop}
+use Rattle.refusal.specs.Number.{number}
+use Rattle.refusal.specs.Answer.{Answer}
+use Rattle.refusal.specs.declared.Refusal.{Refusal}
+use Rattle.refusal.specs.declared.Refusal.the-variants.{AmountExceedsLength, SliceTooShort, ScratchTooShort, TooLong, ZeroState, BudgetExhausted}
+use Rattle.xoshiro256plusplus.specs.Generator.{zeroState}
+use Rattle.xoshiro256plusplus.specs.declared.Xoshiro256PlusPlus.{Xoshiro256PlusPlus}
+use Rattle.uniform_int.specs.Draws.{draws}
+use Rattle.crossover.specs.Method.{methodOf}
+use Rattle.crossover.specs.declared.Method.{Method}
+use Rattle.crossover.specs.declared.Method.the-variants.{Floyd, InPlace, Rejection}
+use Rattle.index.specs.Floyd.{floydOf, floydBounds}
+use Rattle.index.specs.InPlace.{swapsFrom, arranged, falling}
+use Rattle.index.specs.Rejection.{Found, foundOf}
+use Rattle.index.specs.declared.reading.Reading.{Reading}
+use Rattle.index.specs.declared.Outcome.{Outcome}
+use Rattle.index.specs.declared.Outcome.the-variants.{Drawn, Refused}
+use Rattle.index.specs.declared.IndexSample.{IndexSample}
+
+-- ---- what the methods' own functions promise
+
+pub record FloydSample (n amount : ℕ) (g : Xoshiro256PlusPlus) (before after : List ℕ) (r : Reading) : Type 0 where
+  pub indices : after ≡ floydOf n amount (draws (floydBounds n amount) g .values) ++ drop amount before
+  pub words : r .words ≡ draws (floydBounds n amount) g .words
+  pub rng : r .rng ≡ draws (floydBounds n amount) g .rng
+
+pub record Swapped (n amount : ℕ) (g : Xoshiro256PlusPlus) (before after : List ℕ) (r : Reading) : Type 0 where
+  pub scratch : after ≡ swapsFrom 0 before (draws (falling n amount) g .values)
+  pub words : r .words ≡ draws (falling n amount) g .words
+  pub rng : r .rng ≡ draws (falling n amount) g .rng
+
+pub record InPlaceSample (n amount : ℕ) (g : Xoshiro256PlusPlus) (before after work work′ : List ℕ) (r : Reading) : Type 0 where
+  pub indices : after ≡ take amount (arranged n (draws (falling n amount) g .values)) ++ drop amount before
+  pub scratch : work′ ≡ arranged n (draws (falling n amount) g .values) ++ drop n work
+  pub words : r .words ≡ draws (falling n amount) g .words
+  pub rng : r .rng ≡ draws (falling n amount) g .rng
+
+-- ---- the call
+
+-- the number and the values of each case of the answer: the value is the count of indices written
+abbrev pub answerOf : Outcome → ℕ → Answer
+answerOf Drawn count = record { number = 0; values = count ∷ [] }
+answerOf (Refused r) count = record { number = number r; values = count ∷ [] }
+
+-- all that can be seen after the call
+pub record Sampling : Type 0 where
+  pub answer : Answer
+  pub words : ℕ
+  pub rng : Xoshiro256PlusPlus
+  pub indices : List ℕ
+  pub scratch : List ℕ
+
+abbrev pub ended : IndexSample → List ℕ → List ℕ → Sampling
+ended r indices scratch = record { answer = answerOf (r .outcome) (r .count); words = r .words; rng = r .rng; indices = indices; scratch = scratch }
+
+-- a refusal other than 13 reads no word and changes nothing
+unfoldable pub refuses : Refusal → Xoshiro256PlusPlus → List ℕ → List ℕ → Sampling
+refuses r g indices scratch = record { answer = answerOf (Refused r) 0; words = 0; rng = g; indices = indices; scratch = scratch }
+
+-- Floyd's method: the scratch slice stays as it was
+unfoldable pub byFloyd : (n amount : ℕ) → Xoshiro256PlusPlus → List ℕ → List ℕ → Sampling
+byFloyd n amount g indices scratch =
+    record {
+      answer = answerOf Drawn amount;
+      words = draws (floydBounds n amount) g .words;
+      rng = draws (floydBounds n amount) g .rng;
+      indices = floydOf n amount (draws (floydBounds n amount) g .values) ++ drop amount indices;
+      scratch = scratch;
+    }
+
+-- in place: the scratch slice keeps the whole arrangement
+unfoldable pub byInPlace : (n amount : ℕ) → Xoshiro256PlusPlus → List ℕ → List ℕ → Sampling
+byInPlace n amount g indices scratch =
+    record {
+      answer = answerOf Drawn amount;
+      words = draws (falling n amount) g .words;
+      rng = draws (falling n amount) g .rng;
+      indices = take amount (arranged n (draws (falling n amount) g .values)) ++ drop amount indices;
+      scratch = arranged n (draws (falling n amount) g .values) ++ drop n scratch;
+    }
+
+-- rejection: what is found stands at the front; where that is not all, the budget was used up
+unfoldable pub byRejection : Found → List ℕ → List ℕ → Sampling
+byRejection f indices scratch =
+    record {
+      answer = answerOf (cond (f .all) Drawn (Refused BudgetExhausted)) (length (f .indices));
+      words = f .words;
+      rng = f .rng;
+      indices = f .indices ++ drop (length (f .indices)) indices;
+      scratch = scratch;
+    }
+
+-- the method that is due
+unfoldable pub byMethod : Method → (n amount budget : ℕ) → Xoshiro256PlusPlus → List ℕ → List ℕ → Sampling
+byMethod Floyd n amount budget g indices scratch = byFloyd n amount g indices scratch
+byMethod InPlace n amount budget g indices scratch =
+    cond (ltb (length scratch) n) (refuses ScratchTooShort g indices scratch) (byInPlace n amount g indices scratch)
+byMethod Rejection n amount budget g indices scratch = byRejection (foundOf n amount budget g) indices scratch
+
+-- the first refusal that applies, else the sample (document 01: tray for indices, work slice or bench for scratch, allowance for budget)
+unfoldable pub sampleOf : (n amount budget : ℕ) → Xoshiro256PlusPlus → List ℕ → List ℕ → Sampling
+sampleOf n amount budget g indices scratch =
+    cond (zeroState g) (refuses ZeroState g indices scratch)
+    (cond (ltb (2 ^ 32 - 1) n) (refuses TooLong g indices scratch)
+    (cond (ltb n amount) (refuses AmountExceedsLength g indices scratch)
+    (cond (ltb (length indices) amount) (refuses SliceTooShort g indices scratch)
+    (byMethod (methodOf n amount) n amount budget g indices scratch))))

@@ -1,0 +1,100 @@
+// Samples of distinct indices, as in rand's `index.rs`.
+ghost use mathlib.Core.Path.{_≡_};
+ghost use Rattle.index.specs.Sample.{ended, sampleOf};
+use crossover::Method;
+use crossover::choose_method;
+use floyd::sample_floyd;
+use in_place::sample_inplace;
+use reading::Reading;
+use refusal::Refusal;
+use rejection::sample_rejection;
+use xoshiro256plusplus::Xoshiro256PlusPlus;
+
+mod floyd;
+mod in_place;
+mod reading;
+mod rejection;
+mod seen;
+
+// How a call of `sample` ends. The definition `answerOf` gives the table's number and the values of each case.
+pub enum Outcome {
+    Drawn,
+    Refused(Refusal),
+}
+
+// The outcome, the count of indices written, the words read, and the generator after them.
+pub struct IndexSample {
+    pub outcome: Outcome,
+    pub count: u64,
+    pub words: u64,
+    pub rng: Xoshiro256PlusPlus,
+}
+
+// A refusal that has read nothing and written nothing.
+fn refused(why: Refusal, rng: Xoshiro256PlusPlus) -> IndexSample
+    ensures { λ r. ⌜ r ≡ record { outcome = Outcome.Refused why; count = 0; words = 0; rng = rng } ⌝ }
+{
+    IndexSample {
+        outcome: Outcome::Refused(why),
+        count: 0,
+        words: 0,
+        rng: rng,
+    }
+}
+
+// All `amount` indices are drawn.
+fn drawn(amount: u64, reading: Reading) -> IndexSample
+    ensures { λ r. ⌜ r ≡ record { outcome = Outcome.Drawn; count = amount; words = reading .words; rng = reading .rng } ⌝ }
+{
+    let rng = reading.rng;
+    IndexSample {
+        outcome: Outcome::Drawn,
+        count: amount,
+        words: reading.words,
+        rng: rng,
+    }
+}
+
+// Draws `amount` distinct indices below `length`, in random order, to the front of `indices`: the definition `sampleOf`. No sample has more
+// or less than its share (`IndexShares`). Entries past the amount never change. The method is rand's choice by length and amount
+// (`choose_method`): Floyd's and the one in place read no budget; rejection, the one that could read on for ever, stops when `budget` words
+// are read, refuses with 13 and leaves what it has found at the front, with its count. In place needs `length` entries of `scratch`, and
+// leaves there all indices below `length` as it has arranged them; the other two leave `scratch` as it was.
+// Any other refusal reads no word and changes nothing: 12 for an all-zero generator, 10 for a length above 2^32 - 1, 1 for an amount above
+// the length, 8 for fewer entries of `indices` than the amount, 9 for a scratch slice that is too short, the first of these that applies.
+// Cost: amount^2 for Floyd (amounts to 162), the length in place, the amount for rejection, which holds 64 KiB of stack.
+pub fn sample(
+    rng: Xoshiro256PlusPlus,
+    length: u64,
+    amount: u64,
+    budget: u64,
+    indices: &mut [u32],
+    scratch: &mut [u32],
+) -> IndexSample
+    ensures { λ r. ⌜ ended r (now (indices .exit)) (now (scratch .exit)) ≡ sampleOf length amount budget rng (now (indices .entry)) (now (scratch .entry)) ⌝ }
+{
+    if rng.is_zero() {
+        return refused(Refusal::ZeroState, rng);
+    }
+    if length > 0xffff_ffff {
+        return refused(Refusal::TooLong, rng);
+    }
+    if amount > length {
+        return refused(Refusal::AmountExceedsLength, rng);
+    }
+    if (indices.len() as u64) < amount {
+        return refused(Refusal::SliceTooShort, rng);
+    }
+    let n = length as u32;
+    let k = amount as u32;
+    match choose_method(n, k) {
+        Method::Floyd => drawn(amount, sample_floyd(rng, n, k, indices)),
+        Method::InPlace => {
+            if (scratch.len() as u64) < length {
+                return refused(Refusal::ScratchTooShort, rng);
+            }
+            drawn(amount, sample_inplace(rng, n, k, indices, scratch))
+        }
+        Method::Rejection => sample_rejection(rng, n, k, budget, indices),
+    }
+}
