@@ -1,0 +1,17 @@
+-- What `gapyndura_sample` writes, as a sample leaves it.
+use mathlib.Core.List.{List, _∷_}
+use Prim.Native.Nat.{ℕ}
+use Rattle.index.specs.Sample.{Sampling}
+use Rattle.capi.specs.State.{words}
+
+-- what it returns, and what the caller's memory then holds
+pub record Sampled : Type 0 where
+  pub number : ℕ
+  pub state : List ℕ
+  pub out : List ℕ
+  pub indices : List ℕ
+  pub scratch : List ℕ
+
+-- the number of the answer, the generator, the words read and then the answer's value, and both slices
+unfoldable pub sampled : Sampling → Sampled
+sampled s = record { number = s .answer .number; state = words (s .rng); out = s .words ∷ s .answer .values; indices = s .indices; scratch = s .scratch }
