@@ -3,14 +3,15 @@
  * For x86-64 Linux. Link with libcapi.a, which `rt staticlib capi` makes in target/staticlib/.
  *
  * What a caller owes, in every call:
- * - A pointer is not null, is aligned for its type, and is good for the length that goes with it: the number in brackets,
- *   or the length that follows the pointer. Lengths count entries, not bytes.
+ * - A pointer is not null, also where the length that goes with it is 0; it is aligned for its type, and is good for that
+ *   length: the number in brackets, or the length that follows the pointer. Lengths count entries, not bytes.
  * - What is lent for writing (a pointer without const) overlaps nothing else that the call is given, and no other thread
  *   reads or writes it during the call.
  */
 #ifndef GAPYNDURA_H
 #define GAPYNDURA_H
 
+#include <stddef.h>
 #include <stdint.h>
 
 #ifdef __cplusplus
@@ -25,6 +26,35 @@ void gapyndura_from_seed(const uint8_t seed[32], uint64_t state[4]);
 
 /* Writes to state the generator of a seed in one number: the first four outputs of SplitMix64 from it. Never declines. */
 void gapyndura_seed_from_u64(uint64_t seed, uint64_t state[4]);
+
+/* Draws amount distinct indices below length, in random order, to the front of indices.
+ *
+ * rand's own rule chooses among three methods by length and amount. For amounts below 12 it is Floyd's. For 12 to 162 it is
+ * the one in place at lengths to a few hundred or thousand, Floyd's at greater ones. From 163 on it is the one in place where
+ * length is below some 270 times the amount (37 times, from length 500000 on), else the one by rejection. The method in place
+ * needs length entries of scratch, the others none. The one by rejection is the only one that could read words for ever, and
+ * the only one that heeds budget, the most words that it may read. Its filter is a local array: a call may use some 70 KiB of
+ * stack.
+ *
+ * Answers 0 where the sample is drawn, else the number of the first cause here that applies:
+ *   12  all four words of state are 0: that is no generator
+ *   10  length is above 2^32 - 1
+ *    1  amount is above length
+ *    8  indices_len is below amount
+ *    9  the method in place is due, and scratch_len is below length
+ *   13  the method by rejection needs a word more than budget
+ *
+ * On every answer:
+ *   state    is the generator after the words read;
+ *   out[0]   is the words read: 0 on a refusal other than 13, exactly budget on 13;
+ *   out[1]   is the count of indices written: amount on 0, those found on 13, 0 on other refusals;
+ *   indices  has out[1] indices at its front, in the order drawn, and is unchanged behind them;
+ *   scratch  is unchanged, but where the method in place has drawn: then its first length entries are all the indices below
+ *            length as they were exchanged, the first amount of them the sample, and it is unchanged behind them.
+ *
+ * No pointer is null, scratch neither where scratch_len is 0, nor indices where indices_len is 0. */
+uint32_t gapyndura_sample(uint64_t state[4], uint64_t length, uint64_t amount, uint64_t budget,
+                          uint32_t *indices, size_t indices_len, uint32_t *scratch, size_t scratch_len, uint64_t out[2]);
 
 #ifdef __cplusplus
 }

@@ -4,8 +4,19 @@
 
 // SAFETY: a function that is marked safe here takes numbers and references to arrays of the lengths that the header
 // names. Such references are what the header asks of a caller: not null, aligned, good for the length, and what is
-// borrowed for writing overlaps nothing else.
+// borrowed for writing overlaps nothing else. One that takes a slice as a pointer and a length is not marked so.
 unsafe extern "C" {
     pub safe fn gapyndura_from_seed(seed: &[u8; 32], state: &mut [u64; 4]);
     pub safe fn gapyndura_seed_from_u64(seed: u64, state: &mut [u64; 4]);
+    pub fn gapyndura_sample(
+        state: &mut [u64; 4],
+        length: u64,
+        amount: u64,
+        budget: u64,
+        indices: *mut u32,
+        indices_len: usize,
+        scratch: *mut u32,
+        scratch_len: usize,
+        out: &mut [u64; 2],
+    ) -> u32;
 }

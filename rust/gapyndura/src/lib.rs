@@ -5,15 +5,22 @@
 //!
 //! ```
 //! use gapyndura::Xoshiro256PlusPlus;
+//! use gapyndura::index::sample;
 //!
-//! let rng = Xoshiro256PlusPlus::seed_from_u64(1);
-//! assert_eq!(rng.state()[0], 10451216379200822465);
+//! let mut rng = Xoshiro256PlusPlus::seed_from_u64(1);
+//! let mut indices = [0; 3];
+//! sample(&mut rng, 10, 3, u64::MAX, &mut indices, &mut [])?;
+//! assert!(indices.iter().all(|&index| index < 10));
+//! # Ok::<(), gapyndura::index::SampleError>(())
 //! ```
 
 #![no_std]
 #![warn(missing_docs)]
 
 mod boundary;
+pub mod index;
+mod refusal;
 mod xoshiro256plusplus;
 
+pub use refusal::Refusal;
 pub use xoshiro256plusplus::Xoshiro256PlusPlus;

@@ -76,4 +76,9 @@ impl Xoshiro256PlusPlus {
     pub const fn state(&self) -> [u64; 4] {
         self.state
     }
+
+    /// The four words of state, to be lent to a call that advances them.
+    pub(crate) fn state_mut(&mut self) -> &mut [u64; 4] {
+        &mut self.state
+    }
 }

@@ -1,0 +1,130 @@
+//! Samples of distinct indices, as in rand's module `index`.
+
+use core::error::Error;
+use core::fmt;
+
+use crate::boundary::gapyndura_sample;
+use crate::{Refusal, Xoshiro256PlusPlus};
+
+/// What a sample took and gave.
+#[derive(Clone, Copy, Debug, PartialEq, Eq, Hash)]
+pub struct Sampled {
+    /// How many indices stand at the front of the slice.
+    pub count: usize,
+    /// How many words were read from the generator.
+    pub words: u64,
+}
+
+/// Why there is no sample, and what was done before that was seen.
+///
+/// With any refusal but [`BudgetExhausted`](Refusal::BudgetExhausted) that is nothing: no word is read, no slice changed.
+#[derive(Clone, Copy, Debug, PartialEq, Eq, Hash)]
+pub struct SampleError {
+    /// The cause.
+    pub refusal: Refusal,
+    /// The indices found so far and the words read for them.
+    pub so_far: Sampled,
+}
+
+impl fmt::Display for SampleError {
+    fn fmt(&self, f: &mut fmt::Formatter<'_>) -> fmt::Result {
+        self.refusal.fmt(f)?;
+        if self.refusal == Refusal::BudgetExhausted {
+            let Sampled { count, words } = self.so_far;
+            write!(f, ": {count} indices found in {words} words")?;
+        }
+        Ok(())
+    }
+}
+
+impl Error for SampleError {}
+
+/// Draws `amount` distinct indices below `length`, in random order, to the front of `indices`.
+///
+/// The indices, and the words read for them, are those of rand's `seq::index::sample`, which gives no sample more or less
+/// than its share. Entries of `indices` past the amount never change.
+///
+/// rand's rule chooses among three methods by length and amount:
+///
+/// - Floyd's, for amounts below 12, and below 163 where the length is large for the amount;
+/// - the one in place, where the length is small for the amount. It needs `length` entries of `scratch` and leaves there
+///   all indices below `length` as it has arranged them. Entries past the length never change;
+/// - the one by rejection, for amounts from 163 on where the length is large for the amount. It stops when `budget` words
+///   are read; the other two read no budget. It may use some 70 KiB of stack.
+///
+/// Only the method in place changes `scratch`.
+///
+/// ```
+/// use gapyndura::Xoshiro256PlusPlus;
+/// use gapyndura::index::sample;
+///
+/// let mut rng = Xoshiro256PlusPlus::seed_from_u64(1);
+/// let mut indices = [0; 5];
+/// let sampled = sample(&mut rng, 1_000_000, 5, u64::MAX, &mut indices, &mut [])?;
+/// assert_eq!(sampled.count, 5);
+/// assert_eq!(sampled.words, 5);
+/// assert!(indices.iter().all(|&index| index < 1_000_000));
+/// # Ok::<(), gapyndura::index::SampleError>(())
+/// ```
+///
+/// # Errors
+///
+/// The first of these that applies: [`ZeroState`](Refusal::ZeroState); [`TooLong`](Refusal::TooLong), for a length above
+/// 2^32 - 1; [`AmountExceedsLength`](Refusal::AmountExceedsLength); [`SliceTooShort`](Refusal::SliceTooShort), for fewer
+/// entries of `indices` than the amount; [`ScratchTooShort`](Refusal::ScratchTooShort), only where the method in place is
+/// due; and [`BudgetExhausted`](Refusal::BudgetExhausted), where the method by rejection needs a word more than `budget`.
+/// Then exactly `budget` words are read, and the indices found stand at the front of `indices`, in order.
+///
+/// ```
+/// use gapyndura::{Refusal, Xoshiro256PlusPlus};
+/// use gapyndura::index::sample;
+///
+/// let mut rng = Xoshiro256PlusPlus::seed_from_u64(1);
+/// let mut indices = [0; 200];
+/// let error = sample(&mut rng, 1_000_000, 200, 7, &mut indices, &mut []).unwrap_err();
+/// assert_eq!(error.refusal, Refusal::BudgetExhausted);
+/// assert_eq!(error.so_far.words, 7);
+/// assert_eq!(error.so_far.count, 7);
+/// assert_eq!(indices[7..], [0; 193]);
+///
+/// let error = sample(&mut rng, 200, 200, 0, &mut indices, &mut [0; 199]).unwrap_err();
+/// assert_eq!(error.refusal, Refusal::ScratchTooShort);
+/// ```
+pub fn sample(
+    rng: &mut Xoshiro256PlusPlus,
+    length: u64,
+    amount: u64,
+    budget: u64,
+    indices: &mut [u32],
+    scratch: &mut [u32],
+) -> Result<Sampled, SampleError> {
+    let mut out = [0; 2];
+    // SAFETY: the pointer of a slice is not null, also where the slice is empty, is aligned, and is good for the slice's
+    // length. All that is written is borrowed for that, hence overlaps nothing.
+    let number = unsafe {
+        gapyndura_sample(
+            rng.state_mut(),
+            length,
+            amount,
+            budget,
+            indices.as_mut_ptr(),
+            indices.len(),
+            scratch.as_mut_ptr(),
+            scratch.len(),
+            &mut out,
+        )
+    };
+    let [words, count] = out;
+    let sampled = Sampled {
+        // No more than the slice has entries.
+        count: count as usize,
+        words,
+    };
+    if number == 0 {
+        return Ok(sampled);
+    }
+    Err(SampleError {
+        refusal: Refusal::from_number(number),
+        so_far: sampled,
+    })
+}
