@@ -29,12 +29,11 @@ void gapyndura_seed_from_u64(uint64_t seed, uint64_t state[4]);
 
 /* Draws amount distinct indices below length, in random order, to the front of indices.
  *
- * rand's own rule chooses among three methods by length and amount. For amounts below 12 it is Floyd's. For 12 to 162 it is
- * the one in place at lengths to a few hundred or thousand, Floyd's at greater ones. From 163 on it is the one in place where
- * length is below some 270 times the amount (37 times, from length 500000 on), else the one by rejection. The method in place
- * needs length entries of scratch, the others none. The one by rejection is the only one that could read words for ever, and
- * the only one that heeds budget, the most words that it may read. Its filter is a local array: a call may use some 70 KiB of
- * stack.
+ * rand's own rule chooses among three methods by length and amount. Amounts below 12: Floyd's. 12 to 162: the one in place at
+ * small lengths (to 350 for 12, to 43610 for 162), else Floyd's. From 163 on: the one in place where length is below some 270
+ * times the amount (37 times, from length 500000 on), else the one by rejection. The method in place needs length entries of
+ * scratch, the others none. The one by rejection is the only one that could read words for ever, and the only one that heeds
+ * budget, the most words that it may read. Its filter is a local array: a call may use some 70 KiB of stack.
  *
  * Answers 0 where the sample is drawn, else the number of the first cause here that applies:
  *   12  all four words of state are 0: that is no generator

@@ -2,6 +2,7 @@
 
 use rand::rngs::Xoshiro256PlusPlus;
 use rand::{Rng, RngExt, SeedableRng};
+use reference::State;
 
 /// Random numbers, by rand's own generator: an error in the port cannot choose what the port is tried on.
 pub struct Source(Xoshiro256PlusPlus);
@@ -33,6 +34,20 @@ impl Source {
             _ => self.even(),
         }
     }
+
+    /// The state of a generator: any, or one whose words are near powers of two, or have few bits, or are 0.
+    pub fn state(&mut self) -> State {
+        let state = match self.below(2) {
+            0 => [(); 4].map(|()| self.u64()),
+            _ => [(); 4].map(|()| self.even()),
+        };
+        if state == [0; 4] { self.state() } else { state }
+    }
+
+    /// One of these.
+    pub fn one_of<T: Copy>(&mut self, choices: &[T]) -> T {
+        choices[self.below(choices.len() as u32) as usize]
+    }
 }
 
 /// 0, the powers of two of 64 bits, their neighbours, and the largest number.
@@ -52,4 +67,15 @@ pub fn edges() -> Vec<u64> {
 pub fn smaller(number: u64) -> impl Iterator<Item = u64> {
     let powers = (0..u64::BITS).rev().map(|exponent| 1 << exponent);
     powers.filter_map(move |power| number.checked_sub(power))
+}
+
+/// States with a smaller number for one of their words. Four zeros are none.
+pub fn smaller_states(from: State) -> impl Iterator<Item = State> {
+    let places = (0..4).flat_map(move |place| smaller(from[place]).map(move |less| (place, less)));
+    let states = places.map(move |(place, less)| {
+        let mut state = from;
+        state[place] = less;
+        state
+    });
+    states.filter(|state| *state != [0; 4])
 }

@@ -33,6 +33,11 @@ pub trait Kind {
     /// Inputs that count as smaller than this one. No chain of them may be endless.
     fn smaller(input: &Self::Input) -> Vec<Self::Input>;
 
+    /// The calls that an input makes.
+    fn calls(_: &Self::Input) -> u64 {
+        1
+    }
+
     /// rand's answer.
     fn rand(input: &Self::Input) -> Self::Answer;
 
@@ -55,7 +60,7 @@ impl Bound {
     }
 }
 
-/// How many inputs were tried, and on how many of them the sides differ.
+/// How many calls were made, and on how many inputs the sides differ.
 #[derive(Clone, Copy, Default)]
 pub struct Tally {
     pub calls: u64,
@@ -129,7 +134,7 @@ impl<K: Kind> Trial<K> {
     }
 
     fn compare(&mut self, input: K::Input) {
-        self.tally.calls += 1;
+        self.tally.calls += K::calls(&input);
         if self.differs(&input) {
             self.tally.differ += 1;
             self.first.get_or_insert(input);

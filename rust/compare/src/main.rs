@@ -7,6 +7,7 @@ mod arguments;
 mod inputs;
 mod kind;
 mod program;
+mod sample;
 mod seeding;
 
 use std::env;
@@ -18,9 +19,12 @@ use program::Program;
 use reference::call::Name;
 
 /// The kinds of call at the C boundary, in the order in which they are run.
-const KINDS: [Entry; 2] = [
+const KINDS: [Entry; 5] = [
     Entry::of::<seeding::FromSeed>(),
     Entry::of::<seeding::SeedFromU64>(),
+    Entry::of::<sample::Sample>(),
+    Entry::of::<sample::run::Run>(),
+    Entry::of::<sample::choice::Choice>(),
 ];
 
 fn main() -> ExitCode {

@@ -1,11 +1,13 @@
 //! Random calls. Half of them are at a test of the draw that they make, where it has one.
 
 use reference::State;
-use reference::call::{Call, Name, Reading};
+use reference::call::{Call, LONGEST_SLICE, Name, Reading};
+use reference::sampling::Sampling;
 use reference::words::{bounded, giving, rejecting};
 
 use crate::inputs::Source;
 use crate::kind::Kind;
+use crate::sample::Sample;
 use crate::seeding::{FromSeed, SeedFromU64};
 
 /// The most readings of one line.
@@ -16,6 +18,7 @@ pub fn call(name: Name, source: &mut Source, most: u64) -> Call {
     let reading = match name {
         Name::SeedFromU64 => return Call::SeedFromU64(SeedFromU64::random(source)),
         Name::FromSeed => return Call::FromSeed(FromSeed::random(source)),
+        Name::Sample => return Call::Sample(sample(source)),
         Name::NextU64 => Reading::NextU64,
         Name::NextU32 => Reading::NextU32,
         Name::RandomRange => Reading::RandomRange { r: bound(source) },
@@ -30,12 +33,22 @@ pub fn call(name: Name, source: &mut Source, most: u64) -> Call {
     };
     let from = match source.below(2) {
         0 => at_a_test(reading, source),
-        _ => any(source),
+        _ => source.state(),
     };
     Call::Read {
         reading,
         from,
         count: most.min(1 + u64::from(source.below(READINGS))),
+    }
+}
+
+/// A sample with slices for which the program has room.
+fn sample(source: &mut Source) -> Sampling {
+    let call = Sample::random(source);
+    Sampling {
+        indices_len: call.indices_len.min(LONGEST_SLICE),
+        scratch_len: call.scratch_len.min(LONGEST_SLICE),
+        ..call
     }
 }
 
@@ -57,20 +70,11 @@ fn budget(source: &mut Source) -> u64 {
 /// A state whose first two words are on one side or the other of a test of the draw. Outputs and words have no test.
 fn at_a_test(reading: Reading, source: &mut Source) -> State {
     let pairs = match reading {
-        Reading::NextU64 | Reading::NextU32 => return any(source),
+        Reading::NextU64 | Reading::NextU32 => return source.state(),
         Reading::RandomRange { r } | Reading::RandomRangeWithin { r, .. } => bounded(r),
         Reading::UniformInt { r, .. } => rejecting(r),
     };
     let (a, b) = pairs[source.below(pairs.len() as u32) as usize];
     // Four zeros are no state, and words of 0 may be wanted.
     giving(a, b, source.even() | 1)
-}
-
-/// A state: any, or one whose words are near powers of two, or have few bits, or are 0.
-fn any(source: &mut Source) -> State {
-    let state = match source.below(2) {
-        0 => [(); 4].map(|()| source.u64()),
-        _ => [(); 4].map(|()| source.even()),
-    };
-    if state == [0; 4] { any(source) } else { state }
 }

@@ -3,8 +3,9 @@
 use reference::State;
 use reference::call::{Call, Reading};
 
-use crate::inputs::smaller;
+use crate::inputs::{smaller, smaller_states};
 use crate::kind::Kind;
+use crate::sample::Sample;
 use crate::seeding::{FromSeed, SeedFromU64};
 
 /// The lines that are one step smaller than this one.
@@ -12,6 +13,7 @@ pub fn than(call: &Call) -> Vec<Call> {
     match *call {
         Call::SeedFromU64(seed) => each(SeedFromU64::smaller(&seed), Call::SeedFromU64),
         Call::FromSeed(seed) => each(FromSeed::smaller(&seed), Call::FromSeed),
+        Call::Sample(ref call) => each(Sample::smaller(call), Call::Sample),
         Call::Read {
             reading,
             from,
@@ -27,7 +29,7 @@ pub fn than(call: &Call) -> Vec<Call> {
                 let later = after(&read(reading, from, passed));
                 read(reading, later, count - passed)
             }));
-            calls.extend(states(from).map(|less| read(reading, less, count)));
+            calls.extend(smaller_states(from).map(|less| read(reading, less, count)));
             calls.extend(readings(reading).map(|less| read(less, from, count)));
             calls
         }
@@ -68,15 +70,4 @@ fn draws(r: u32, budget: u64) -> impl Iterator<Item = (u32, u64)> {
 fn bounds(r: u32) -> impl Iterator<Item = u32> {
     let numbers = smaller(r.into()).filter(|&less| less > 0);
     numbers.map(|less| u32::try_from(less).expect("less than a u32"))
-}
-
-/// States with a smaller number for one of their words. Four zeros are none.
-fn states(from: State) -> impl Iterator<Item = State> {
-    let places = (0..4).flat_map(move |place| smaller(from[place]).map(move |less| (place, less)));
-    let states = places.map(move |(place, less)| {
-        let mut state = from;
-        state[place] = less;
-        state
-    });
-    states.filter(|state| *state != [0; 4])
 }

@@ -9,10 +9,16 @@ use rand::rngs::Xoshiro256PlusPlus;
 use rand::{Rng, SeedableRng};
 
 use crate::draws::{Draws, RAND, within};
+use crate::methods::{draw, due};
+use crate::sample_line::{numbers, sampled};
+use crate::sampling::{Drawing, Sampling};
 use crate::{State, from_state, state};
 
 /// The size that no list reaches, in bytes: the Rattle program that is given it has room for 262,144.
 pub const LARGEST_LIST: usize = 256_000;
+
+/// The length that no slice of a list's call passes, in entries: that program has room for two slices of 50,176.
+pub const LONGEST_SLICE: usize = 50_000;
 
 /// The kinds of line, by the names that rand has for the calls.
 #[derive(Clone, Copy, Debug, PartialEq, Eq)]
@@ -24,11 +30,12 @@ pub enum Name {
     RandomRange,
     RandomRangeWithin,
     UniformInt,
+    Sample,
 }
 
 impl Name {
     /// All of them, in their order.
-    pub const ALL: [Self; 7] = [
+    pub const ALL: [Self; 8] = [
         Self::SeedFromU64,
         Self::FromSeed,
         Self::NextU64,
@@ -36,6 +43,7 @@ impl Name {
         Self::RandomRange,
         Self::RandomRangeWithin,
         Self::UniformInt,
+        Self::Sample,
     ];
 }
 
@@ -49,6 +57,7 @@ impl fmt::Display for Name {
             Self::RandomRange => "random_range",
             Self::RandomRangeWithin => "random_range_within",
             Self::UniformInt => "uniform_int",
+            Self::Sample => "sample",
         })
     }
 }
@@ -123,6 +132,10 @@ pub enum Call {
         from: State,
         count: u64,
     },
+    /// A sample of indices, with both slices filled with 4294967295. The answer is its number, the count of indices written
+    /// and the words read; then the first 20 entries of the indices' slice, or all where they are fewer, its hash, and the hash
+    /// of the scratch slice.
+    Sample(Sampling),
 }
 
 impl Call {
@@ -133,6 +146,7 @@ impl Call {
             Self::SeedFromU64(_) => Name::SeedFromU64,
             Self::FromSeed(_) => Name::FromSeed,
             Self::Read { reading, .. } => reading.name(),
+            Self::Sample(_) => Name::Sample,
         }
     }
 
@@ -140,7 +154,7 @@ impl Call {
     #[must_use]
     pub fn calls(&self) -> u64 {
         match *self {
-            Self::SeedFromU64(_) | Self::FromSeed(_) => 1,
+            Self::SeedFromU64(_) | Self::FromSeed(_) | Self::Sample(_) => 1,
             Self::Read { count, .. } => count,
         }
     }
@@ -155,13 +169,19 @@ impl Call {
                 from,
                 count,
             } => [&from[..], &reading.numbers(), &[count]].concat(),
+            Self::Sample(ref sampling) => numbers(sampling),
         }
     }
 
     /// rand's answer.
     #[must_use]
     pub fn answer(&self) -> Vec<u64> {
-        self.answer_by(&RAND)
+        match self {
+            Self::Sample(sampling) => {
+                sampled(sampling, |indices, scratch| sampling.end(indices, scratch))
+            }
+            _ => self.answer_by(&RAND),
+        }
     }
 
     /// The answer of rand's generator with these draws in place of rand's.
@@ -178,6 +198,13 @@ impl Call {
                 let mut rng = from_state(from);
                 let readings = (0..count).flat_map(|_| reading.read(&mut rng, draws));
                 (readings.collect(), rng)
+            }
+            Self::Sample(ref sampling) => {
+                let drawing: Drawing<'_> =
+                    &|rng, length, amount| draw(due(length, amount), rng, length, amount, draws);
+                return sampled(sampling, |indices, scratch| {
+                    sampling.end_by(drawing, indices, scratch)
+                });
             }
         };
         numbers.extend(state(&after));

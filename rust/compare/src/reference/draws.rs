@@ -7,7 +7,7 @@ use rand::{Rng, RngExt};
 use crate::Counting;
 
 /// The number of document 01's table for a draw that needs a word more than its budget (there: "spent").
-const BUDGET_EXHAUSTED: u64 = 13;
+pub const BUDGET_EXHAUSTED: u64 = 13;
 
 /// A drawn value, and the words that were read for it.
 #[derive(Clone, Copy, Debug, PartialEq, Eq)]

@@ -4,6 +4,10 @@
 
 pub mod call;
 pub mod draws;
+pub mod methods;
+pub mod panics;
+pub mod sample_line;
+pub mod sampling;
 pub mod words;
 
 use std::convert::Infallible;

@@ -1,0 +1,202 @@
+//! The three methods of index sampling and the choice among them, written anew from document 01.
+//!
+//! rand hands out the indices alone. What else is known of its sample is got by making the same draws again in the way of
+//! the method, and [`by_rand`] holds every one of these to rand's own indices, words and generator.
+
+use std::collections::HashSet;
+
+use rand::rngs::Xoshiro256PlusPlus;
+use rand::seq::index;
+
+use crate::Counting;
+use crate::draws::{Drawn, Draws, RAND};
+
+/// A way to draw a sample.
+#[derive(Clone, Copy, Debug, PartialEq, Eq)]
+pub enum Method {
+    Floyd,
+    InPlace,
+    Rejection,
+}
+
+impl Method {
+    /// All of them.
+    pub const ALL: [Self; 3] = [Self::Floyd, Self::InPlace, Self::Rejection];
+}
+
+/// The method that is due, with Rust's own rounding of whole numbers to `f32`.
+#[must_use]
+pub fn due(length: u32, amount: u32) -> Method {
+    let (slope, base, ratio) = match length {
+        ..500_000_u32 => (1.6_f32, 10.0_f32, 270.0_f32),
+        _ => (8.0 / 45.0, 70.0 / 9.0, 330.0 / 9.0),
+    };
+    let places = length as f32;
+    let count = amount as f32;
+    match amount {
+        0..=11 => Method::Floyd,
+        12..=162 if places < (base + slope * count) * count => Method::InPlace,
+        12..=162 => Method::Floyd,
+        _ if places < ratio * count => Method::InPlace,
+        _ => Method::Rejection,
+    }
+}
+
+/// What a method has drawn.
+#[derive(Clone, Debug, Default, PartialEq, Eq)]
+pub struct Sample {
+    /// The indices, in order.
+    pub indices: Vec<u32>,
+    /// The words read when each of them was drawn.
+    pub words: Vec<u64>,
+    /// In place: all indices below the length, as they were exchanged. Else none.
+    pub arranged: Vec<u32>,
+}
+
+impl Sample {
+    /// The words read in all.
+    #[must_use]
+    pub fn words(&self) -> u64 {
+        self.words.last().copied().unwrap_or(0)
+    }
+
+    /// Adds the words of a draw.
+    pub fn read(&mut self, drawn: Drawn) {
+        self.words.push(self.words() + drawn.words);
+    }
+}
+
+/// The sample of a method with these draws. The generator is advanced.
+pub fn draw(
+    method: Method,
+    rng: &mut Xoshiro256PlusPlus,
+    length: u32,
+    amount: u32,
+    draws: &Draws,
+) -> Sample {
+    match method {
+        Method::Floyd => floyd(rng, length, amount, draws),
+        Method::InPlace => in_place(rng, length, amount, draws),
+        Method::Rejection => rejection(rng, length, amount, draws),
+    }
+}
+
+fn floyd(rng: &mut Xoshiro256PlusPlus, length: u32, amount: u32, draws: &Draws) -> Sample {
+    let mut sample = Sample::default();
+    for j in length - amount..length {
+        let t = (draws.bounded)(rng, j + 1);
+        sample.read(t);
+        if let Some(equal) = sample.indices.iter_mut().find(|index| **index == t.value) {
+            *equal = j;
+        }
+        sample.indices.push(t.value);
+    }
+    sample
+}
+
+fn in_place(rng: &mut Xoshiro256PlusPlus, length: u32, amount: u32, draws: &Draws) -> Sample {
+    let mut sample = Sample::default();
+    let mut places: Vec<u32> = (0..length).collect();
+    for i in 0..amount {
+        let d = (draws.bounded)(rng, length - i);
+        sample.read(d);
+        places.swap(i as usize, (i + d.value) as usize);
+    }
+    sample.indices = places[..amount as usize].to_vec();
+    sample.arranged = places;
+    sample
+}
+
+fn rejection(rng: &mut Xoshiro256PlusPlus, length: u32, amount: u32, draws: &Draws) -> Sample {
+    let mut sample = Sample::default();
+    let mut held = HashSet::new();
+    let mut words = 0;
+    while sample.indices.len() < amount as usize {
+        let drawn = (draws.rejecting)(rng, length);
+        words += drawn.words;
+        if held.insert(drawn.value) {
+            sample.indices.push(drawn.value);
+            sample.words.push(words);
+        }
+    }
+    sample
+}
+
+/// rand's own sample: the indices and the words read for them. The generator is advanced.
+fn rand(rng: &mut Xoshiro256PlusPlus, length: u32, amount: u32) -> (Vec<u32>, u64) {
+    let mut counting = Counting::new(rng.clone());
+    let indices = index::sample(&mut counting, length as usize, amount as usize);
+    let words = counting.words();
+    *rng = counting.into_inner();
+    // An index below a length of 32 bits has no more.
+    let indices = indices.into_iter().map(|index| index as u32);
+    (indices.collect(), words)
+}
+
+/// rand's own sample, with what the method that is due adds to it. The generator is advanced.
+///
+/// # Panics
+///
+/// If that method makes another sample of the same draws: then [`due`] is not rand's choice.
+pub fn by_rand(rng: &mut Xoshiro256PlusPlus, length: u32, amount: u32) -> Sample {
+    let mut again = rng.clone();
+    let (indices, words) = rand(rng, length, amount);
+    let method = due(length, amount);
+    let sample = draw(method, &mut again, length, amount, &RAND);
+    assert!(
+        sample.indices == indices && sample.words() == words && again == *rng,
+        "{amount} of {length}: rand's sample is not by {method:?}"
+    );
+    sample
+}
+
+/// The largest amount for which Floyd's method is tried. It takes the amount's square of steps.
+const FLOYD_TRIED: u32 = 5000;
+
+/// The methods that give rand's sample from this generator: the indices, the words and the generator afterwards.
+#[must_use]
+pub fn seen(rng: &Xoshiro256PlusPlus, length: u32, amount: u32) -> Vec<Method> {
+    let mut after = rng.clone();
+    let (indices, words) = rand(&mut after, length, amount);
+    let tried = Method::ALL
+        .into_iter()
+        .filter(|&method| method != Method::Floyd || amount <= FLOYD_TRIED);
+    let gives = |method: &Method| {
+        let mut again = rng.clone();
+        let sample = draw(*method, &mut again, length, amount, &RAND);
+        sample.indices == indices && sample.words() == words && again == after
+    };
+    tried.filter(gives).collect()
+}
+
+#[cfg(test)]
+mod tests {
+    use rand::SeedableRng;
+    use rand::rngs::Xoshiro256PlusPlus;
+
+    use super::{Method, due, seen};
+
+    /// Document 01's marked choices, each seen in rand's own sample.
+    #[test]
+    fn the_marked_choices_are_rands() {
+        let rng = Xoshiro256PlusPlus::seed_from_u64(1);
+        for (amount, length, method) in [
+            (12, 350, Method::InPlace),
+            (12, 351, Method::Floyd),
+            (12, 500_000, Method::Floyd),
+            (163, 44_009, Method::InPlace),
+            (163, 44_010, Method::Rejection),
+            (2000, 499_999, Method::InPlace),
+            (2000, 500_000, Method::Rejection),
+        ] {
+            assert_eq!(due(length, amount), method);
+            assert_eq!(seen(&rng, length, amount), [method]);
+        }
+    }
+
+    #[test]
+    fn a_length_is_rounded_to_the_nearest_even() {
+        assert_eq!(16_777_217_u32 as f32, 16_777_216.0);
+        assert_eq!(16_777_219_u32 as f32, 16_777_220.0);
+    }
+}

@@ -1,0 +1,161 @@
+//! The choice of the method, over all lengths and amounts. It is seen without memory: with an empty scratch slice and a budget
+//! of 0 the port refuses with 9 where the method in place is due, with 13 where rejection is, and draws where Floyd's is.
+
+use std::cell::RefCell;
+
+use gapyndura::index::sample;
+use gapyndura::{Refusal, Xoshiro256PlusPlus as Port};
+use rand::SeedableRng;
+use rand::rngs::Xoshiro256PlusPlus as Rand;
+use reference::methods::{Method, due, seen};
+
+use super::slices::without_memory;
+use crate::inputs::{Source, smaller};
+use crate::kind::Kind;
+
+/// To this length rand's choice is always seen in its sample. That takes the length's time and memory.
+const SEEN: u32 = 60_000;
+
+/// The choice of the method.
+pub struct Choice {
+    /// A slice for the largest amount.
+    indices: RefCell<&'static mut [u32]>,
+}
+
+/// A length and an amount that is not above it.
+#[derive(Clone, Debug)]
+pub struct Input {
+    length: u32,
+    amount: u32,
+    /// Whether rand's choice is seen in its sample whatever the length is.
+    is_seen: bool,
+}
+
+impl Kind for Choice {
+    const NAME: &'static str = "sample, the choice of its method";
+    const FAULTS: &'static [&'static str] = &[];
+    type Input = Input;
+    /// None is an answer that no method gives.
+    type Answer = Option<Method>;
+
+    fn new(_: Option<&str>) -> Self {
+        let indices = RefCell::new(without_memory(u32::MAX as usize));
+        Self { indices }
+    }
+
+    fn fixed(mut visit: impl FnMut(Input)) {
+        for amount in 0..=170 {
+            (amount..=40).for_each(|length| visit(input(length, amount, true)));
+            near_lines(amount, |length| visit(input(length, amount, true)));
+        }
+        for amount in [2000, 13_638] {
+            near_lines(amount, |length| visit(input(length, amount, true)));
+        }
+        for length in [16_777_346, 16_777_347] {
+            visit(input(length, 457_564, true));
+        }
+        let powers =
+            (8..32).flat_map(|exponent| [1 << exponent, (1 << exponent) + 1, (2 << exponent) - 1]);
+        for amount in powers {
+            near_lines(amount, |length| visit(input(length, amount, false)));
+        }
+    }
+
+    fn random(source: &mut Source) -> Input {
+        let amount = match source.below(4) {
+            0 => source.below(400),
+            1 => source.u64() as u32,
+            2 => source.even() as u32 >> source.below(32),
+            _ => source.even() as u32 >> source.below(8),
+        };
+        let mut lengths = Vec::new();
+        near_lines(amount, |length| lengths.push(length));
+        lengths.extend([u32::MAX, amount, (source.even() as u32).max(amount)]);
+        let length = source.one_of(&lengths);
+        let off = source.below(600);
+        let length = source.one_of(&[
+            length,
+            length.saturating_add(off),
+            length.saturating_sub(off),
+        ]);
+        input(length, amount, false)
+    }
+
+    fn smaller(choice: &Input) -> Vec<Input> {
+        let Input {
+            length,
+            amount,
+            is_seen,
+        } = *choice;
+        let amounts = smaller(amount.into()).map(|less| input(length, less as u32, is_seen));
+        let lengths = smaller(length.into()).filter(|&less| less >= amount.into());
+        amounts
+            .chain(lengths.map(|less| input(less as u32, amount, is_seen)))
+            .collect()
+    }
+
+    /// The method that gives rand's sample. Where several do, and where rand's sample would take much memory, it is the one by
+    /// document 01's rule, with Rust's own rounding.
+    fn rand(choice: &Input) -> Option<Method> {
+        let Input {
+            length,
+            amount,
+            is_seen,
+        } = *choice;
+        let by_rule = due(length, amount);
+        if !is_seen && length > SEEN {
+            return Some(by_rule);
+        }
+        let rng = Rand::seed_from_u64(u64::from(length) << 32 | u64::from(amount));
+        let methods = seen(&rng, length, amount);
+        let is_among = methods.contains(&by_rule);
+        if is_among {
+            Some(by_rule)
+        } else {
+            methods.first().copied()
+        }
+    }
+
+    fn port(&self, choice: &Input) -> Option<Method> {
+        let Input { length, amount, .. } = *choice;
+        let mut rng = Port::from_state([1, 2, 3, 4]);
+        let mut indices = self.indices.borrow_mut();
+        let indices = &mut indices[..amount as usize];
+        let result = sample(&mut rng, length.into(), amount.into(), 0, indices, &mut []);
+        match result.map_err(|error| error.refusal) {
+            Ok(_) => Some(Method::Floyd),
+            Err(Refusal::ScratchTooShort) => Some(Method::InPlace),
+            Err(Refusal::BudgetExhausted) => Some(Method::Rejection),
+            Err(_) => None,
+        }
+    }
+}
+
+/// These numbers as an input, the amount cut to the length.
+fn input(length: u32, amount: u32, is_seen: bool) -> Input {
+    Input {
+        length,
+        amount: amount.min(length),
+        is_seen,
+    }
+}
+
+/// The lengths next to the lines at this amount, and next to the length from which other lines hold.
+fn near_lines(amount: u32, mut visit: impl FnMut(u32)) {
+    let count = f64::from(amount);
+    let lines = [
+        (10.0 + 1.6 * count) * count,
+        (70.0 / 9.0 + 8.0 / 45.0 * count) * count,
+        270.0 * count,
+        330.0 / 9.0 * count,
+        500_000.0,
+    ];
+    for line in lines {
+        // A line above all lengths comes down to the greatest.
+        let at = line as u32;
+        let lengths = at.saturating_sub(2)..=at.saturating_add(2);
+        lengths
+            .filter(|&length| length >= amount)
+            .for_each(&mut visit);
+    }
+}

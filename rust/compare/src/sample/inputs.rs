@@ -1,0 +1,268 @@
+//! Samples to try.
+
+use rand::SeedableRng;
+use rand::rngs::Xoshiro256PlusPlus;
+use reference::methods::{Method, by_rand, due};
+use reference::sampling::Sampling;
+use reference::{State, from_state, state};
+
+use crate::inputs::Source;
+
+/// Every amount is tried at every length to this one, from so many generators.
+const SMALL: u64 = 40;
+const GENERATORS: u64 = 300;
+
+/// The slices of a random call are no longer.
+const LONGEST: u64 = 60_000;
+
+/// Amounts on both sides of the rules' bounds, and lengths on both sides of the lines at these amounts.
+const AMOUNTS: [u64; 6] = [0, 1, 11, 12, 162, 163];
+const LENGTHS: [u64; 17] = [
+    349,
+    350,
+    351,
+    352,
+    43_609,
+    43_610,
+    43_611,
+    43_612,
+    44_008,
+    44_009,
+    44_010,
+    44_011,
+    499_999,
+    500_000,
+    500_001,
+    4_294_967_294,
+    4_294_967_295,
+];
+
+/// Lengths and amounts at the other bounds; the last two of these for what rounding does to the length.
+const AT_BOUNDS: [(u64, u64); 8] = [
+    (499_998, 2000),
+    (499_999, 2000),
+    (500_000, 2000),
+    (500_001, 2000),
+    (500_060, 13_638),
+    (500_061, 13_638),
+    (16_777_346, 457_564),
+    (16_777_347, 457_564),
+];
+
+/// A budget that ends the last of these: what it takes grows with the square of what it has found.
+const LAST_BUDGET: u64 = 60_000;
+
+/// Samples by rejection that are given every budget: few and many words dropped, and indices drawn twice.
+const UNDER_BUDGETS: [(u64, u64); 4] = [
+    (44_010, 163),
+    (4_294_967_295, 164),
+    ((1 << 31) + 1, 163),
+    (500_000, 2000),
+];
+
+/// The state of one of rand's generators, as good as any other.
+fn some_state(number: u64) -> State {
+    state(&Xoshiro256PlusPlus::seed_from_u64(number))
+}
+
+/// The scratch slice that a sample needs.
+fn scratch_needed(length: u64, amount: u64) -> usize {
+    let sizes = (u32::try_from(length), u32::try_from(amount));
+    match sizes {
+        (Ok(places), Ok(count)) if due(places, count) == Method::InPlace => length as usize,
+        _ => 0,
+    }
+}
+
+/// A sample with slices that are exactly long enough and a budget that suffices.
+pub fn exact(from: State, length: u64, amount: u64) -> Sampling {
+    Sampling {
+        from,
+        length,
+        amount,
+        budget: u64::MAX,
+        indices_len: amount as usize,
+        scratch_len: scratch_needed(length, amount),
+    }
+}
+
+/// The same with slices that are longer by so much.
+fn longer(call: &Sampling, by: usize) -> Sampling {
+    Sampling {
+        indices_len: call.indices_len + by,
+        scratch_len: call.scratch_len + by,
+        ..call.clone()
+    }
+}
+
+/// The calls that every run makes.
+pub fn fixed(mut visit: impl FnMut(Sampling)) {
+    small(&mut visit);
+    for amount in AMOUNTS {
+        let equal = [amount, amount + 1];
+        let lengths = LENGTHS.into_iter().chain(equal);
+        lengths.for_each(|length| at_bound(length, amount, 5, &mut visit));
+    }
+    for (length, amount) in AT_BOUNDS {
+        let generators = if length < 1_000_000 { 3 } else { 1 };
+        at_bound(length, amount, generators, &mut visit);
+    }
+    for same in [41, 100, 164, 500, 5000] {
+        at_bound(same, same, 5, &mut visit);
+    }
+    for amount in [2, 50, 161, 164, 500, 2000] {
+        at_bound(u32::MAX.into(), amount, 5, &mut visit);
+    }
+    for (number, (length, amount)) in (0..).zip(UNDER_BUDGETS) {
+        budgets(exact(some_state(number), length, amount), &mut visit);
+    }
+    for (length, amount) in [(20, 11), (40, 12), (44_010, 163)] {
+        refusals(&exact(some_state(length), length, amount), &mut visit);
+    }
+}
+
+/// All small samples, with slices that are long enough and longer.
+fn small(visit: &mut impl FnMut(Sampling)) {
+    for (number, longer_by) in (0..GENERATORS).zip([0, 1, 5].into_iter().cycle()) {
+        let from = some_state(number);
+        for length in 0..=SMALL {
+            for amount in 0..=length {
+                visit(longer(&exact(from, length, amount), longer_by));
+            }
+        }
+    }
+}
+
+/// A sample with slices that are exactly long enough, longer, and one short; and with an amount above the length.
+fn at_bound(length: u64, amount: u64, generators: u64, visit: &mut impl FnMut(Sampling)) {
+    for number in 0..generators {
+        let mut call = exact(some_state(number), length, amount);
+        if amount > 100_000 && call.scratch_len == 0 {
+            call.budget = LAST_BUDGET;
+        }
+        visit(longer(&call, 7));
+        visit(Sampling {
+            amount: length + 1,
+            ..call.clone()
+        });
+        for (indices_short, scratch_short) in [(1, 0), (0, 1), (1, 1)] {
+            visit(Sampling {
+                indices_len: call.indices_len.saturating_sub(indices_short),
+                scratch_len: call.scratch_len.saturating_sub(scratch_short),
+                ..call.clone()
+            });
+        }
+        visit(call);
+    }
+}
+
+/// A sample with every budget from 0 to more than it needs.
+fn budgets(call: Sampling, visit: &mut impl FnMut(Sampling)) {
+    let mut rng = from_state(call.from);
+    let needed = by_rand(&mut rng, call.length as u32, call.amount as u32).words();
+    for budget in 0..=needed + 2 {
+        visit(Sampling {
+            budget,
+            ..longer(&call, 2)
+        });
+    }
+}
+
+/// Every cause of a refusal alone and with all others: a bit of `causes` for each.
+fn refusals(call: &Sampling, visit: &mut impl FnMut(Sampling)) {
+    for causes in 0..64 {
+        let has = |cause: u32| causes >> cause & 1 == 1;
+        let mut refused = call.clone();
+        if has(0) {
+            refused.from = [0; 4];
+        }
+        if has(1) {
+            refused.length += 1 << 32;
+        }
+        if has(2) {
+            refused.amount = refused.length + 1;
+            // No slice is as long where the length is too.
+            refused.indices_len = refused.amount.min(LONGEST) as usize;
+        }
+        if has(3) {
+            refused.indices_len = call.indices_len - 1;
+        }
+        if has(4) {
+            refused.scratch_len = call.scratch_len.saturating_sub(1);
+        }
+        if has(5) {
+            refused.budget = 0;
+        }
+        visit(refused);
+    }
+}
+
+/// A random sample. Most are small.
+pub fn random(source: &mut Source) -> Sampling {
+    let (length, amount) = sizes(source);
+    let needed = scratch_needed(length, amount).min(LONGEST as usize) as u64;
+    let indices_len = around(source, amount.min(LONGEST));
+    let scratch_len = around(source, needed);
+    Sampling {
+        from: if source.below(256) == 0 {
+            [0; 4]
+        } else {
+            source.state()
+        },
+        length,
+        amount,
+        budget: budget(source, amount),
+        indices_len,
+        scratch_len,
+    }
+}
+
+/// A length and an amount.
+fn sizes(source: &mut Source) -> (u64, u64) {
+    let any = |source: &mut Source, end: u64| u64::from(source.below(end as u32));
+    match source.below(128) {
+        0 => (source.u64() % (1 << 34), any(source, 400)),
+        1 => (44_000 + any(source, 3000), 163 + any(source, 12)),
+        2 => (source.u64() % (1 << 34), source.u64() % (1 << 34)),
+        3 => {
+            // Near the line of amounts from 12 to 162.
+            let amount = 12 + any(source, 40);
+            (
+                amount * 10 + amount * amount * 8 / 5 - 2 + any(source, 5),
+                amount,
+            )
+        }
+        4..16 => {
+            let length = any(source, 2000);
+            (length, any(source, length.min(300) + 2))
+        }
+        _ => {
+            let length = any(source, 64);
+            (length, any(source, length + 2))
+        }
+    }
+}
+
+/// A number of entries: what is needed, most often, or a few more, or fewer.
+fn around(source: &mut Source, needed: u64) -> usize {
+    let entries = match source.below(16) {
+        0 => needed.saturating_sub(1),
+        1 => needed / 2,
+        2 => 0,
+        3..8 => needed + u64::from(source.below(6)),
+        _ => needed,
+    };
+    entries as usize
+}
+
+/// A budget: enough, or about what so many indices need, or less.
+fn budget(source: &mut Source, amount: u64) -> u64 {
+    match source.below(4) {
+        0 => source.u64(),
+        1 => amount
+            .saturating_add(source.below(5).into())
+            .saturating_sub(2),
+        2 => source.u64() % amount.saturating_add(2),
+        _ => u64::MAX,
+    }
+}

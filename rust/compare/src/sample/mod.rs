@@ -1,0 +1,99 @@
+//! The sample of distinct indices. What is compared is the answer, the count, the words read, the generator afterwards, and
+//! both slices whole, with entries around them that no call may change.
+
+pub mod choice;
+mod faults;
+pub mod inputs;
+mod port;
+pub mod run;
+mod slices;
+
+use reference::sampling::{Ended, Sampling};
+
+use crate::inputs::{Source, smaller, smaller_states};
+use crate::kind::Kind;
+use faults::{FAULTS, Fault};
+use slices::Lent;
+
+/// Calls of `sample`, each from a generator of its own.
+pub struct Sample {
+    fault: Option<Fault>,
+}
+
+/// All that is left of a call.
+#[derive(Debug, PartialEq)]
+pub struct Answer {
+    ended: Ended,
+    indices: Lent,
+    scratch: Lent,
+}
+
+impl Answer {
+    /// The answer where `end` ends the call and leaves the slices as they then are.
+    fn new(call: &Sampling, end: impl FnOnce(&mut [u32], &mut [u32]) -> Ended) -> Self {
+        let mut indices = Lent::new(call.indices_len);
+        let mut scratch = Lent::new(call.scratch_len);
+        let ended = end(indices.entries(), scratch.entries());
+        Self {
+            ended,
+            indices,
+            scratch,
+        }
+    }
+}
+
+impl Kind for Sample {
+    const NAME: &'static str = "sample";
+    const FAULTS: &'static [&'static str] = &faults::NAMES;
+    type Input = Sampling;
+    type Answer = Answer;
+
+    fn new(plant: Option<&str>) -> Self {
+        let mut faults = FAULTS.into_iter();
+        let fault = faults.find(|(name, _)| Some(*name) == plant);
+        Self {
+            fault: fault.map(|(_, fault)| fault),
+        }
+    }
+
+    fn fixed(visit: impl FnMut(Sampling)) {
+        inputs::fixed(visit);
+    }
+
+    fn random(source: &mut Source) -> Sampling {
+        inputs::random(source)
+    }
+
+    fn smaller(call: &Sampling) -> Vec<Sampling> {
+        let mut calls = Vec::new();
+        let mut add = |edit: &dyn Fn(&mut Sampling)| {
+            let mut less = call.clone();
+            edit(&mut less);
+            calls.push(less);
+        };
+        smaller(call.amount).for_each(|amount| add(&|call| call.amount = amount));
+        smaller(call.length).for_each(|length| add(&|call| call.length = length));
+        smaller(call.budget).for_each(|budget| add(&|call| call.budget = budget));
+        smaller(call.indices_len as u64)
+            .for_each(|len| add(&|call| call.indices_len = len as usize));
+        smaller(call.scratch_len as u64)
+            .for_each(|len| add(&|call| call.scratch_len = len as usize));
+        smaller_states(call.from).for_each(|from| add(&|call| call.from = from));
+        calls
+    }
+
+    fn rand(call: &Sampling) -> Answer {
+        Answer::new(call, |indices, scratch| call.end(indices, scratch))
+    }
+
+    /// The port's, or that of the planted fault where it is not rand's.
+    fn port(&self, call: &Sampling) -> Answer {
+        if let Some(fault) = self.fault {
+            let faulty = Answer::new(call, |indices, scratch| fault(call, indices, scratch));
+            if faulty != Self::rand(call) {
+                return faulty;
+            }
+        }
+        Answer::new(call, |indices, scratch| port::end(call, indices, scratch))
+    }
+}
