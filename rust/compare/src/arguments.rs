@@ -18,7 +18,7 @@ pub struct Arguments {
     pub seed: u64,
     /// The time for all random inputs together.
     seconds: Option<u64>,
-    /// How many random inputs each kind of call gets at most.
+    /// How many random calls of each kind are made.
     calls: Option<u64>,
     /// The fault that is put into the answers of one side.
     pub plant: Option<String>,
@@ -76,13 +76,13 @@ impl Arguments {
         }
     }
 
-    /// The share of so many kinds of call, where there are `all` of them.
-    pub fn bound(&self, kinds: usize, all: usize) -> Bound {
+    /// The bound of so many parts, where there are `all` of them.
+    pub fn bound(&self, parts: usize, all: usize) -> Bound {
         let seconds = match (self.seconds, self.calls) {
             (None, None) => Some(DEFAULT_SECONDS),
             (seconds, _) => seconds,
         };
-        let share = kinds as f64 / all as f64;
+        let share = parts as f64 / all as f64;
         Bound {
             time: seconds.map(|seconds| Duration::from_secs(seconds).mul_f64(share)),
             calls: self.calls.unwrap_or(u64::MAX),

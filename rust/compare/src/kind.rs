@@ -15,6 +15,9 @@ pub trait Kind {
     /// The faults that can be put into the port's answers, so that a comparison is seen to fail.
     const FAULTS: &'static [&'static str];
 
+    /// How many parts of the time of a run the kind gets.
+    const PARTS: usize = 1;
+
     /// All that the call is given.
     type Input: Clone + Debug;
 
@@ -78,6 +81,8 @@ impl AddAssign for Tally {
 pub struct Entry {
     /// The kind's faults.
     pub faults: &'static [&'static str],
+    /// The kind's parts of the time.
+    pub parts: usize,
     /// Runs the kind and prints what came of it.
     pub run: fn(&Arguments, &Bound) -> Tally,
 }
@@ -87,12 +92,13 @@ impl Entry {
     pub const fn of<K: Kind>() -> Self {
         Self {
             faults: K::FAULTS,
+            parts: K::PARTS,
             run: run::<K>,
         }
     }
 }
 
-/// Random inputs between two looks at the clock.
+/// Calls between two looks at the clock.
 const BATCH: u64 = 256;
 
 fn run<K: Kind>(arguments: &Arguments, bound: &Bound) -> Tally {
@@ -102,11 +108,12 @@ fn run<K: Kind>(arguments: &Arguments, bound: &Bound) -> Tally {
     let started = Instant::now();
     let mut left = bound.calls;
     while left > 0 && bound.in_time(started) {
-        let batch = left.min(BATCH);
-        for _ in 0..batch {
-            trial.compare(K::random(&mut source));
+        let end = left.saturating_sub(BATCH);
+        while left > end {
+            let input = K::random(&mut source);
+            left = left.saturating_sub(K::calls(&input));
+            trial.compare(input);
         }
-        left -= batch;
     }
     println!("{}: {} calls", K::NAME, trial.tally.calls);
     trial.report();

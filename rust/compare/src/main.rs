@@ -51,10 +51,10 @@ fn run(arguments: &Arguments) -> Result<Tally, String> {
     });
     let program = program.transpose()?;
     let lines = program.as_ref().map_or(0, |_| Name::ALL.len());
-    let all = KINDS.len() + lines;
+    let all = KINDS.iter().map(|entry| entry.parts).sum::<usize>() + lines;
     let mut sum = Tally::default();
     for entry in &KINDS {
-        sum += (entry.run)(arguments, &arguments.bound(1, all));
+        sum += (entry.run)(arguments, &arguments.bound(entry.parts, all));
     }
     match program {
         Some(program) => sum += program::run(&program, arguments, &arguments.bound(lines, all)),

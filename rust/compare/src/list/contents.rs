@@ -8,6 +8,8 @@ use reference::call::{Call, Reading};
 use reference::words::{bounded, giving, rejecting};
 use reference::{State, state};
 
+use crate::samples;
+
 /// The bounds that are drawn below: the least, powers of two, their neighbours, and the largest.
 const BOUNDS: [u32; 8] = [1, 2, 3, 6, 1 << 31, (1 << 31) + 1, u32::MAX - 1, u32::MAX];
 
@@ -43,7 +45,8 @@ pub struct Section {
 }
 
 impl Section {
-    fn new(title: impl Into<String>, calls: Vec<Call>) -> Self {
+    /// These calls under a title.
+    pub fn new(title: impl Into<String>, calls: Vec<Call>) -> Self {
         let title = title.into();
         Self { title, calls }
     }
@@ -60,11 +63,12 @@ pub fn sections() -> Vec<Section> {
         sections.push(random_rejecting(r));
         sections.push(chosen_rejecting(r));
     }
+    sections.extend(samples::sections());
     sections
 }
 
 /// The state of one of rand's generators, as good as any other.
-fn some_state(number: u64) -> State {
+pub fn some_state(number: u64) -> State {
     state(&Xoshiro256PlusPlus::seed_from_u64(number))
 }
 

@@ -3,6 +3,7 @@
 //! [`reference::call`] says what a line of `stdin` is and what its line of `stdout` holds.
 
 mod contents;
+mod samples;
 
 use std::env;
 use std::fs;

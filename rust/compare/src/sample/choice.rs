@@ -14,12 +14,14 @@ use crate::inputs::{Source, smaller};
 use crate::kind::Kind;
 
 /// To this length rand's choice is always seen in its sample. That takes the length's time and memory.
-const SEEN: u32 = 60_000;
+const SEEN: u32 = 20_000;
 
 /// The choice of the method.
 pub struct Choice {
     /// A slice for the largest amount.
     indices: RefCell<&'static mut [u32]>,
+    /// Fault `length-rounding`: from 163 on the length is compared as it is, not rounded to 24 bits.
+    keeps_length: bool,
 }
 
 /// A length and an amount that is not above it.
@@ -33,14 +35,16 @@ pub struct Input {
 
 impl Kind for Choice {
     const NAME: &'static str = "sample, the choice of its method";
-    const FAULTS: &'static [&'static str] = &[];
+    const FAULTS: &'static [&'static str] = &["length-rounding"];
     type Input = Input;
     /// None is an answer that no method gives.
     type Answer = Option<Method>;
 
-    fn new(_: Option<&str>) -> Self {
-        let indices = RefCell::new(without_memory(u32::MAX as usize));
-        Self { indices }
+    fn new(plant: Option<&str>) -> Self {
+        Self {
+            indices: RefCell::new(without_memory(u32::MAX as usize)),
+            keeps_length: plant == Some("length-rounding"),
+        }
     }
 
     fn fixed(mut visit: impl FnMut(Input)) {
@@ -49,23 +53,26 @@ impl Kind for Choice {
             near_lines(amount, |length| visit(input(length, amount, true)));
         }
         for amount in [2000, 13_638] {
-            near_lines(amount, |length| visit(input(length, amount, true)));
+            near_lines(amount, |length| {
+                visit(input(length, amount, length < 1_000_000));
+            });
         }
         for length in [16_777_346, 16_777_347] {
             visit(input(length, 457_564, true));
         }
-        let powers =
-            (8..32).flat_map(|exponent| [1 << exponent, (1 << exponent) + 1, (2 << exponent) - 1]);
-        for amount in powers {
-            near_lines(amount, |length| visit(input(length, amount, false)));
+        for exponent in 8..32 {
+            let power = 1 << exponent;
+            for amount in [power, power + 1, power - 1 + power] {
+                near_lines(amount, |length| visit(input(length, amount, false)));
+            }
         }
     }
 
     fn random(source: &mut Source) -> Input {
-        let amount = match source.below(4) {
+        let amount = match source.below(16) {
             0 => source.below(400),
             1 => source.u64() as u32,
-            2 => source.even() as u32 >> source.below(32),
+            2..8 => source.even() as u32 >> source.below(24),
             _ => source.even() as u32 >> source.below(8),
         };
         let mut lengths = Vec::new();
@@ -118,6 +125,15 @@ impl Kind for Choice {
 
     fn port(&self, choice: &Input) -> Option<Method> {
         let Input { length, amount, .. } = *choice;
+        if self.keeps_length && length >= 500_000 && amount >= 163 {
+            let line: f32 = 330.0 / 9.0 * amount as f32;
+            let is_below = f64::from(length) < f64::from(line);
+            return Some(if is_below {
+                Method::InPlace
+            } else {
+                Method::Rejection
+            });
+        }
         let mut rng = Port::from_state([1, 2, 3, 4]);
         let mut indices = self.indices.borrow_mut();
         let indices = &mut indices[..amount as usize];

@@ -37,20 +37,20 @@ const LENGTHS: [u64; 17] = [
     4_294_967_295,
 ];
 
-/// Lengths and amounts at the other bounds; the last two of these for what rounding does to the length.
-const AT_BOUNDS: [(u64, u64); 8] = [
+/// Lengths and amounts at the other bounds.
+const AT_BOUNDS: [(u64, u64); 6] = [
     (499_998, 2000),
     (499_999, 2000),
     (500_000, 2000),
     (500_001, 2000),
     (500_060, 13_638),
     (500_061, 13_638),
-    (16_777_346, 457_564),
-    (16_777_347, 457_564),
 ];
 
-/// A budget that ends the last of these: what it takes grows with the square of what it has found.
-const LAST_BUDGET: u64 = 60_000;
+/// Lengths that are rounded, with an amount whose line lies between them, and budgets. They take much memory, and the second,
+/// by rejection, would take long without its budget.
+const ROUNDED: [(u64, u64); 2] = [(16_777_346, 0), (16_777_347, 60_000)];
+const ROUNDED_AMOUNT: u64 = 457_564;
 
 /// Samples by rejection that are given every budget: few and many words dropped, and indices drawn twice.
 const UNDER_BUDGETS: [(u64, u64); 4] = [
@@ -104,8 +104,11 @@ pub fn fixed(mut visit: impl FnMut(Sampling)) {
         lengths.for_each(|length| at_bound(length, amount, 5, &mut visit));
     }
     for (length, amount) in AT_BOUNDS {
-        let generators = if length < 1_000_000 { 3 } else { 1 };
-        at_bound(length, amount, generators, &mut visit);
+        at_bound(length, amount, 2, &mut visit);
+    }
+    for (length, budget) in ROUNDED {
+        let call = exact(some_state(length), length, ROUNDED_AMOUNT);
+        visit(Sampling { budget, ..call });
     }
     for same in [41, 100, 164, 500, 5000] {
         at_bound(same, same, 5, &mut visit);
@@ -136,10 +139,7 @@ fn small(visit: &mut impl FnMut(Sampling)) {
 /// A sample with slices that are exactly long enough, longer, and one short; and with an amount above the length.
 fn at_bound(length: u64, amount: u64, generators: u64, visit: &mut impl FnMut(Sampling)) {
     for number in 0..generators {
-        let mut call = exact(some_state(number), length, amount);
-        if amount > 100_000 && call.scratch_len == 0 {
-            call.budget = LAST_BUDGET;
-        }
+        let call = exact(some_state(number), length, amount);
         visit(longer(&call, 7));
         visit(Sampling {
             amount: length + 1,
