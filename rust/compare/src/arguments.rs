@@ -5,7 +5,8 @@ use std::time::Duration;
 use crate::kind::Bound;
 
 /// How the program is called.
-pub const USAGE: &str = "usage: compare [--seed N] [--seconds N] [--calls N] [--plant NAME]";
+pub const USAGE: &str =
+    "usage: compare [--program PATH] [--seed N] [--seconds N] [--calls N] [--plant NAME]";
 
 /// How long a run takes where neither a time nor a number of calls is given.
 const DEFAULT_SECONDS: u64 = 20;
@@ -21,16 +22,27 @@ pub struct Arguments {
     calls: Option<u64>,
     /// The fault that is put into the answers of one side.
     pub plant: Option<String>,
+    /// The Rattle program that answers lists of calls.
+    pub program: Option<String>,
+}
+
+/// The names of the faults that can be planted.
+pub struct Faults {
+    /// Those in the answers at the C boundary.
+    pub boundary: Vec<&'static str>,
+    /// Those in the answers of the Rattle program.
+    pub program: Vec<&'static str>,
 }
 
 impl Arguments {
-    /// Reads the command line. A fault must be one of `faults`, or a run would pass for want of a fault to find.
-    pub fn parse(words: impl Iterator<Item = String>, faults: &[&str]) -> Result<Self, String> {
+    /// Reads the command line.
+    pub fn parse(words: impl Iterator<Item = String>, faults: &Faults) -> Result<Self, String> {
         let mut arguments = Self {
             seed: 1,
             seconds: None,
             calls: None,
             plant: None,
+            program: None,
         };
         let mut words = words;
         while let Some(word) = words.next() {
@@ -39,22 +51,40 @@ impl Arguments {
                 "--seed" => arguments.seed = number(&value)?,
                 "--seconds" => arguments.seconds = Some(number(&value)?),
                 "--calls" => arguments.calls = Some(number(&value)?),
-                "--plant" if faults.contains(&value.as_str()) => arguments.plant = Some(value),
-                "--plant" => return Err(format!("no fault is called {value}")),
+                "--plant" => arguments.plant = Some(value),
+                "--program" => arguments.program = Some(value),
                 _ => return Err(format!("{word} is no option")),
             }
         }
+        arguments.check_plant(faults)?;
         Ok(arguments)
     }
 
-    /// The share of one kind of call, where there are `kinds` of them.
-    pub fn bound(&self, kinds: usize) -> Bound {
+    /// A fault must be one of `faults`, and what it is planted in must be run, or a run would pass for want of a fault to
+    /// find.
+    fn check_plant(&self, faults: &Faults) -> Result<(), String> {
+        match self.plant.as_deref() {
+            None => Ok(()),
+            Some(name) if faults.boundary.contains(&name) => Ok(()),
+            Some(name) if !faults.program.contains(&name) => {
+                Err(format!("no fault is called {name}"))
+            }
+            Some(name) if self.program.is_none() => Err(format!(
+                "fault {name} is one of the program's: --program is wanted"
+            )),
+            Some(_) => Ok(()),
+        }
+    }
+
+    /// The share of so many kinds of call, where there are `all` of them.
+    pub fn bound(&self, kinds: usize, all: usize) -> Bound {
         let seconds = match (self.seconds, self.calls) {
             (None, None) => Some(DEFAULT_SECONDS),
             (seconds, _) => seconds,
         };
+        let share = kinds as f64 / all as f64;
         Bound {
-            time: seconds.map(|seconds| Duration::from_secs(seconds).div_f64(kinds as f64)),
+            time: seconds.map(|seconds| Duration::from_secs(seconds).mul_f64(share)),
             calls: self.calls.unwrap_or(u64::MAX),
         }
     }

@@ -40,16 +40,23 @@ pub trait Kind {
     fn port(&self, input: &Self::Input) -> Self::Answer;
 }
 
-/// Where the random inputs of one kind end: at the first bound that is reached.
+/// Where random inputs end: at the first bound that is reached.
 pub struct Bound {
     /// The time that they may take.
     pub time: Option<Duration>,
-    /// How many there are at most.
+    /// How many there are at most of each kind.
     pub calls: u64,
 }
 
+impl Bound {
+    /// Whether there is still time for what was started then.
+    pub fn in_time(&self, started: Instant) -> bool {
+        self.time.is_none_or(|time| started.elapsed() < time)
+    }
+}
+
 /// How many inputs were tried, and on how many of them the sides differ.
-#[derive(Default)]
+#[derive(Clone, Copy, Default)]
 pub struct Tally {
     pub calls: u64,
     pub differ: u64,
@@ -89,7 +96,7 @@ fn run<K: Kind>(arguments: &Arguments, bound: &Bound) -> Tally {
     let mut source = Source::new(arguments.seed);
     let started = Instant::now();
     let mut left = bound.calls;
-    while left > 0 && bound.time.is_none_or(|time| started.elapsed() < time) {
+    while left > 0 && bound.in_time(started) {
         let batch = left.min(BATCH);
         for _ in 0..batch {
             trial.compare(K::random(&mut source));
@@ -143,10 +150,20 @@ impl<K: Kind> Trial<K> {
 
     fn report(&self) {
         if let Some(input) = self.smallest() {
-            println!("  {} differ; the smallest input found:", self.tally.differ);
-            println!("  {} {input:?}", K::NAME);
-            println!("  rand: {:?}", K::rand(&input));
-            println!("  port: {:?}", self.kind.port(&input));
+            report(
+                self.tally.differ,
+                format!("{} {input:?}", K::NAME),
+                format!("{:?}", K::rand(&input)),
+                format!("{:?}", self.kind.port(&input)),
+            );
         }
     }
+}
+
+/// Prints how often the sides differ, and the smallest call found at which they do with the answers of both.
+pub fn report(differ: u64, call: String, rand: String, port: String) {
+    println!("  {differ} differ; the smallest input found:");
+    println!("  {call}");
+    println!("  rand: {rand}");
+    println!("  port: {port}");
 }

@@ -1,49 +1,75 @@
 //! Runs Gapyndura and rand on the same inputs and says whether they ever differ.
 //!
-//! Each kind of call is a file with a type that is a [`kind::Kind`], and a line in [`KINDS`].
+//! Each kind of call at the C boundary is a file with a type that is a [`kind::Kind`], and a line in [`KINDS`]. Calls that
+//! have no function there are made by the Rattle program of module [`program`].
 
 mod arguments;
 mod inputs;
 mod kind;
+mod program;
 mod seeding;
 
 use std::env;
 use std::process::ExitCode;
 
-use arguments::{Arguments, USAGE};
+use arguments::{Arguments, Faults, USAGE};
 use kind::{Entry, Tally};
+use program::Program;
+use reference::call::Name;
 
-/// The kinds of call, in the order in which they are run.
+/// The kinds of call at the C boundary, in the order in which they are run.
 const KINDS: [Entry; 2] = [
     Entry::of::<seeding::FromSeed>(),
     Entry::of::<seeding::SeedFromU64>(),
 ];
 
 fn main() -> ExitCode {
-    let faults: Vec<&str> = KINDS
-        .iter()
-        .flat_map(|entry| entry.faults)
-        .copied()
-        .collect();
-    let arguments = match Arguments::parse(env::args().skip(1), &faults) {
-        Ok(arguments) => arguments,
-        Err(message) => {
-            eprintln!(
-                "compare: {message}\n{USAGE}\nfaults to plant: {}",
-                faults.join(", ")
-            );
-            return ExitCode::from(2);
+    let faults = faults();
+    let sum = Arguments::parse(env::args().skip(1), &faults)
+        .map_err(|message| format!("{message}\n{}", usage(&faults)))
+        .and_then(|arguments| run(&arguments));
+    match sum {
+        Ok(sum) => {
+            println!("{} calls, {} differ", sum.calls, sum.differ);
+            ExitCode::from(u8::from(sum.differ > 0))
         }
-    };
-    let bound = arguments.bound(KINDS.len());
+        Err(message) => {
+            eprintln!("compare: {message}");
+            ExitCode::from(2)
+        }
+    }
+}
+
+/// Runs all that was asked for. An error is a program that cannot be run.
+fn run(arguments: &Arguments) -> Result<Tally, String> {
+    let program = arguments.program.as_deref().map(|path| {
+        Program::new(path, arguments.plant.as_deref()).map_err(|error| format!("{path}: {error}"))
+    });
+    let program = program.transpose()?;
+    let lines = program.as_ref().map_or(0, |_| Name::ALL.len());
+    let all = KINDS.len() + lines;
     let mut sum = Tally::default();
     for entry in &KINDS {
-        sum += (entry.run)(&arguments, &bound);
+        sum += (entry.run)(arguments, &arguments.bound(1, all));
     }
-    println!("{} calls, {} differ", sum.calls, sum.differ);
-    if sum.differ == 0 {
-        ExitCode::SUCCESS
-    } else {
-        ExitCode::FAILURE
+    match program {
+        Some(program) => sum += program::run(&program, arguments, &arguments.bound(lines, all)),
+        None => println!("words and draws: not compared, for want of --program PATH"),
     }
+    Ok(sum)
+}
+
+/// All faults that can be planted.
+fn faults() -> Faults {
+    let boundary = KINDS.iter().flat_map(|entry| entry.faults).copied();
+    Faults {
+        boundary: boundary.collect(),
+        program: program::FAULTS.map(|(name, _)| name).to_vec(),
+    }
+}
+
+fn usage(faults: &Faults) -> String {
+    let boundary = faults.boundary.join(", ");
+    let program = faults.program.join(", ");
+    format!("{USAGE}\nfaults to plant: {boundary}; with --program: {program}")
 }

@@ -1,18 +1,25 @@
 //! What the list holds.
 
+use std::iter;
+
 use rand::SeedableRng;
 use rand::rngs::Xoshiro256PlusPlus;
-use reference::state;
-
-use super::call::{Call, State};
-use super::words::{bounded, giving, rejecting};
+use reference::call::{Call, Reading};
+use reference::words::{bounded, giving, rejecting};
+use reference::{State, state};
 
 /// The bounds that are drawn below: the least, powers of two, their neighbours, and the largest.
 const BOUNDS: [u32; 8] = [1, 2, 3, 6, 1 << 31, (1 << 31) + 1, u32::MAX - 1, u32::MAX];
 
 /// Lines of random draws for each bound, and draws in each.
-const LINES: u64 = 15;
-const DRAWS: usize = 20;
+const LINES: usize = 15;
+const DRAWS: u64 = 20;
+
+/// Budgets that end a bounded draw before its first word, between its two words, after both, and never.
+const BOUNDED_BUDGETS: [u64; 4] = [0, 1, 2, u64::MAX];
+
+/// Lines of random bounded draws for each bound and each of these budgets.
+const BUDGET_LINES: usize = 2;
 
 /// The outputs that the authors of xoshiro256++ give for the state 1, 2, 3, 4.
 const PUBLISHED: [u64; 10] = [
@@ -48,6 +55,8 @@ pub fn sections() -> Vec<Section> {
     for r in BOUNDS {
         sections.push(random_bounded(r));
         sections.push(chosen_bounded(r));
+        sections.push(random_bounded_within(r));
+        sections.push(chosen_bounded_within(r));
         sections.push(random_rejecting(r));
         sections.push(chosen_rejecting(r));
     }
@@ -59,8 +68,17 @@ fn some_state(number: u64) -> State {
     state(&Xoshiro256PlusPlus::seed_from_u64(number))
 }
 
+/// A line of readings.
+fn read(reading: Reading, from: State, count: u64) -> Call {
+    Call::Read {
+        reading,
+        from,
+        count,
+    }
+}
+
 fn published() -> Section {
-    let call = Call::NextU64([1, 2, 3, 4], PUBLISHED.len());
+    let call = read(Reading::NextU64, [1, 2, 3, 4], PUBLISHED.len() as u64);
     assert_eq!(call.answer()[..PUBLISHED.len()], PUBLISHED);
     Section::new(
         "The authors' published outputs from the state 1, 2, 3, 4",
@@ -108,9 +126,9 @@ fn steps() -> Section {
         }
     }
     states.extend((0..10).map(some_state));
-    let calls = states
-        .into_iter()
-        .flat_map(|from| [Call::NextU64(from, 10), Call::NextU32(from, 10)]);
+    let calls = states.into_iter().flat_map(|from| {
+        [Reading::NextU64, Reading::NextU32].map(|reading| read(reading, from, 10))
+    });
     Section::new(
         "Outputs, and words, which are their upper halves",
         calls.collect(),
@@ -127,75 +145,82 @@ fn marked() -> Section {
     ];
     let mut calls = Vec::new();
     for (a, b, value, words) in drawn {
-        let call = Call::RandomRange {
-            from: giving(a, b, 1),
-            r: 6,
-            draws: 1,
-        };
+        let call = read(Reading::RandomRange { r: 6 }, giving(a, b, 1), 1);
         assert_eq!(call.answer()[..2], [value, words]);
         calls.push(call);
     }
-    let dropped = Call::UniformInt {
-        from: giving(0, 1, 1),
-        r: 6,
-        budget: 2,
-        draws: 1,
-    };
+    let dropped = read(Reading::UniformInt { r: 6, budget: 2 }, giving(0, 1, 1), 1);
     assert_eq!(dropped.answer()[..3], [0, 0, 2]);
     calls.push(dropped);
     Section::new("The draws below 6 that document 01 works out", calls)
 }
 
+/// Each of the readings, so many times over, from generators of which `mark` and the bound say which they are.
+fn random(
+    r: u32,
+    mark: u64,
+    readings: impl Iterator<Item = Reading>,
+) -> impl Iterator<Item = Call> {
+    let lines = (0..).zip(readings);
+    lines.map(move |(line, reading)| {
+        let from = some_state(u64::from(r) << 8 | mark | line);
+        read(reading, from, DRAWS)
+    })
+}
+
+/// Generators that give these pairs of words.
+fn chosen(pairs: Vec<(u32, u32)>) -> impl Iterator<Item = State> {
+    let salted = pairs.into_iter().zip(1..);
+    salted.map(|((a, b), salt)| giving(a, b, some_state(salt)[0]))
+}
+
 fn random_bounded(r: u32) -> Section {
-    let calls = (0..LINES).map(|line| {
-        let from = some_state(u64::from(r) << 8 | line);
-        Call::RandomRange {
-            from,
-            r,
-            draws: DRAWS,
-        }
-    });
-    Section::new(format!("Bounded draws below {r}"), calls.collect())
+    let readings = iter::repeat_n(Reading::RandomRange { r }, LINES);
+    Section::new(
+        format!("Bounded draws below {r}"),
+        random(r, 0, readings).collect(),
+    )
 }
 
 fn chosen_bounded(r: u32) -> Section {
-    let pairs = bounded(r).into_iter().zip(1..);
-    let calls = pairs.map(|((a, b), salt)| {
-        let from = giving(a, b, some_state(salt)[0]);
-        Call::RandomRange { from, r, draws: 2 }
-    });
+    let calls = chosen(bounded(r)).map(|from| read(Reading::RandomRange { r }, from, 2));
     Section::new(
         format!("Bounded draws below {r} at the second word's tests"),
         calls.collect(),
     )
 }
 
+fn random_bounded_within(r: u32) -> Section {
+    let budgets = BOUNDED_BUDGETS.repeat(BUDGET_LINES).into_iter();
+    let readings = budgets.map(|budget| Reading::RandomRangeWithin { r, budget });
+    Section::new(
+        format!("Bounded draws below {r} within a budget"),
+        random(r, 64, readings).collect(),
+    )
+}
+
+fn chosen_bounded_within(r: u32) -> Section {
+    let calls = chosen(bounded(r)).flat_map(|from| {
+        BOUNDED_BUDGETS.map(|budget| read(Reading::RandomRangeWithin { r, budget }, from, 2))
+    });
+    Section::new(
+        format!("Bounded draws below {r} within a budget, at the second word's tests"),
+        calls.collect(),
+    )
+}
+
 fn random_rejecting(r: u32) -> Section {
-    let budgets = [0, 1, 2, 3, 4, 1000, u64::MAX];
-    let calls = (0..LINES)
-        .zip(budgets.into_iter().cycle())
-        .map(|(line, budget)| {
-            let from = some_state(u64::from(r) << 8 | 128 | line);
-            Call::UniformInt {
-                from,
-                r,
-                budget,
-                draws: DRAWS,
-            }
-        });
-    Section::new(format!("Rejecting draws below {r}"), calls.collect())
+    let budgets = [0, 1, 2, 3, 4, 1000, u64::MAX].into_iter().cycle();
+    let readings = budgets.map(|budget| Reading::UniformInt { r, budget });
+    Section::new(
+        format!("Rejecting draws below {r}"),
+        random(r, 128, readings.take(LINES)).collect(),
+    )
 }
 
 fn chosen_rejecting(r: u32) -> Section {
-    let pairs = rejecting(r).into_iter().zip(1..);
-    let calls = pairs.flat_map(|((a, b), salt)| {
-        let from = giving(a, b, some_state(salt)[0]);
-        [1, 2, 3, u64::MAX].map(|budget| Call::UniformInt {
-            from,
-            r,
-            budget,
-            draws: 1,
-        })
+    let calls = chosen(rejecting(r)).flat_map(|from| {
+        [1, 2, 3, u64::MAX].map(|budget| read(Reading::UniformInt { r, budget }, from, 1))
     });
     Section::new(
         format!("Rejecting draws below {r} at the threshold"),

@@ -1,11 +1,8 @@
 //! Writes the fixed list of rand's answers that a Rattle program is held to: calls in file `stdin`, answers in `stdout`.
 //!
-//! A line of `stdin` that starts with `#` is a comment. Any other is one call, a name and decimal numbers with single
-//! spaces between, and has one line of decimal numbers in `stdout`. [`call::Call`] says what the calls are.
+//! [`reference::call`] says what a line of `stdin` is and what its line of `stdout` holds.
 
-mod call;
 mod contents;
-mod words;
 
 use std::env;
 use std::fs;
@@ -13,12 +10,10 @@ use std::path::PathBuf;
 use std::process::ExitCode;
 
 use contents::Section;
+use reference::call::{LARGEST_LIST, joined};
 
 /// The length that no line passes, in bytes.
 const LONGEST_LINE: usize = 400;
-
-/// The size that neither file reaches, in bytes.
-const LARGEST_FILE: usize = 200_000;
 
 fn main() -> ExitCode {
     let mut words = env::args_os().skip(1);
@@ -52,10 +47,10 @@ fn texts(sections: &[Section]) -> (String, String) {
         push(&mut stdin, &format!("# {}", section.title));
         for call in &section.calls {
             push(&mut stdin, &call.to_string());
-            push(&mut stdout, &call::joined(&call.answer()));
+            push(&mut stdout, &joined(&call.answer()));
         }
     }
-    assert!(stdin.len() < LARGEST_FILE && stdout.len() < LARGEST_FILE);
+    assert!(stdin.len() < LARGEST_LIST && stdout.len() < LARGEST_LIST);
     (stdin, stdout)
 }
 

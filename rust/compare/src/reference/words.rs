@@ -4,12 +4,11 @@
 //! reads a second word if `l > 2^32 - r`, and the rejecting draw drops the word if `l < 2^32 mod r`.
 
 use rand::Rng;
-use reference::from_state;
 
-use super::call::State;
+use crate::{State, from_state};
 
 /// The number of words.
-const WORDS: u64 = 1 << 32;
+pub const WORDS: u64 = 1 << 32;
 
 /// A generator whose first two words are `a` and `b`. What is left free is filled from `salt`.
 ///

@@ -1,4 +1,10 @@
 //! rand's generator, with its state laid open and the words that it gives counted. rand's file is not edited for this.
+//!
+//! With it, rand's answers to the calls of a list: what program `compare` holds a run to and program `list` writes.
+
+pub mod call;
+pub mod draws;
+pub mod words;
 
 use std::convert::Infallible;
 use std::fmt::{self, Write};
@@ -7,6 +13,9 @@ use rand::rngs::Xoshiro256PlusPlus;
 use rand::{SeedableRng, TryRng};
 
 /// The four words of a generator's state.
+pub type State = [u64; 4];
+
+/// The state of a generator.
 ///
 /// rand keeps them in a private field, and the derived `Debug` writes that field in full: the numbers after the bracket.
 ///
@@ -14,7 +23,7 @@ use rand::{SeedableRng, TryRng};
 ///
 /// If that text does not hold four numbers of 64 bits there.
 #[must_use]
-pub fn state(rng: &Xoshiro256PlusPlus) -> [u64; 4] {
+pub fn state(rng: &Xoshiro256PlusPlus) -> State {
     let mut list = List::default();
     write!(list, "{rng:?}").unwrap_or_else(|_| panic!("no list of numbers in {rng:?}"));
     assert!(list.count == 4, "no state of four words in {rng:?}");
@@ -27,7 +36,7 @@ pub fn state(rng: &Xoshiro256PlusPlus) -> [u64; 4] {
 struct List {
     open: bool,
     count: usize,
-    numbers: [u64; 4],
+    numbers: State,
 }
 
 impl Write for List {
@@ -67,7 +76,7 @@ impl List {
 ///
 /// If all four are 0: rand has no such generator.
 #[must_use]
-pub fn from_state(words: [u64; 4]) -> Xoshiro256PlusPlus {
+pub fn from_state(words: State) -> Xoshiro256PlusPlus {
     let mut seed = [0; 32];
     for (bytes, word) in seed.chunks_exact_mut(8).zip(words) {
         bytes.copy_from_slice(&word.to_le_bytes());

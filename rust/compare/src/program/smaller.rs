@@ -1,0 +1,82 @@
+//! Lines that count as smaller than another. No chain of them is endless.
+
+use reference::State;
+use reference::call::{Call, Reading};
+
+use crate::inputs::smaller;
+use crate::kind::Kind;
+use crate::seeding::{FromSeed, SeedFromU64};
+
+/// The lines that are one step smaller than this one.
+pub fn than(call: &Call) -> Vec<Call> {
+    match *call {
+        Call::SeedFromU64(seed) => each(SeedFromU64::smaller(&seed), Call::SeedFromU64),
+        Call::FromSeed(seed) => each(FromSeed::smaller(&seed), Call::FromSeed),
+        Call::Read {
+            reading,
+            from,
+            count,
+        } => {
+            let read = |reading, from, count| Call::Read {
+                reading,
+                from,
+                count,
+            };
+            let mut calls = each(1..count, |less| read(reading, from, less));
+            calls.extend((1..count).rev().map(|passed| {
+                let later = after(&read(reading, from, passed));
+                read(reading, later, count - passed)
+            }));
+            calls.extend(states(from).map(|less| read(reading, less, count)));
+            calls.extend(readings(reading).map(|less| read(less, from, count)));
+            calls
+        }
+    }
+}
+
+fn each<T>(inputs: impl IntoIterator<Item = T>, make: impl Fn(T) -> Call) -> Vec<Call> {
+    inputs.into_iter().map(make).collect()
+}
+
+/// The state after a call, with which its answer ends.
+fn after(call: &Call) -> State {
+    let answer = call.answer();
+    *answer.last_chunk().expect("an answer ends with a state")
+}
+
+/// Draws with a smaller bound or a smaller budget.
+fn readings(reading: Reading) -> Box<dyn Iterator<Item = Reading>> {
+    match reading {
+        Reading::NextU64 | Reading::NextU32 => Box::new([].into_iter()),
+        Reading::RandomRange { r } => Box::new(bounds(r).map(|r| Reading::RandomRange { r })),
+        Reading::RandomRangeWithin { r, budget } => {
+            Box::new(draws(r, budget).map(|(r, budget)| Reading::RandomRangeWithin { r, budget }))
+        }
+        Reading::UniformInt { r, budget } => {
+            Box::new(draws(r, budget).map(|(r, budget)| Reading::UniformInt { r, budget }))
+        }
+    }
+}
+
+/// A bound and a budget, of which one is smaller.
+fn draws(r: u32, budget: u64) -> impl Iterator<Item = (u32, u64)> {
+    let budgets = smaller(budget).map(move |less| (r, less));
+    budgets.chain(bounds(r).map(move |less| (less, budget)))
+}
+
+/// Smaller bounds. 0 is none.
+fn bounds(r: u32) -> impl Iterator<Item = u32> {
+    let numbers = smaller(r.into()).filter(|&less| less > 0);
+    numbers.map(|less| u32::try_from(less).expect("less than a u32"))
+}
+
+/// States with a smaller number for one of their words. Four zeros are none.
+fn states(from: State) -> impl Iterator<Item = State> {
+    let places = (0..4).flat_map(move |place| smaller(from[place]).map(move |less| (place, less)));
+    let states = places.map(move |(place, less)| {
+        let mut state = from;
+        state[place] = less;
+        state
+    });
+    states.filter(|state| *state != [0; 4])
+}
