@@ -8,6 +8,11 @@ pub fn put(n: u64) {
     io::write_all(STDOUT_FILENO, b" ");
 }
 
+// An entry of a slice.
+pub fn put_entry(x: u32) {
+    put(x as u64);
+}
+
 // The state, which ends a line.
 pub fn put_state(rng: Xoshiro256PlusPlus) {
     put(rng.s0);

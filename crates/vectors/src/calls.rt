@@ -2,6 +2,7 @@
 ghost use Prim.Native.Nat.{_<_};
 use super::answers::put;
 use super::answers::put_state;
+use super::sampling;
 use super::text::Numbers;
 use super::text::name_end;
 use super::text::read_numbers;
@@ -14,7 +15,7 @@ use uniform_int::random_range_within;
 use xoshiro256plusplus::Xoshiro256PlusPlus;
 
 // The generator whose state is the first four numbers.
-fn generator(n: Numbers) -> Xoshiro256PlusPlus {
+pub fn generator(n: Numbers) -> Xoshiro256PlusPlus {
     let values = n.values;
     Xoshiro256PlusPlus {
         s0: values[0],
@@ -134,6 +135,9 @@ pub fn make(line: &[u8]) {
     if same(name, b"random_range_within") {
         let reading = Reading::Within(values[4], values[5]);
         read_all(reading, generator(n), values[6]);
+    }
+    if same(name, b"sample") {
+        sampling::sample(n);
     }
     if same(name, b"uniform_int") {
         let reading = Reading::Rejecting(values[4], values[5]);

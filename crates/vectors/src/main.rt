@@ -7,6 +7,9 @@ use text::line_end;
 
 mod answers;
 mod calls;
+mod hash;
+mod sampling;
+mod slices;
 mod text;
 
 // Makes the call on each line.

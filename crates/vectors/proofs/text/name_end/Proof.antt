@@ -1,7 +1,6 @@
 -- `name_end` meets its contract. Assumes nothing.
-use mathlib.Core.Path.{sym}
 use borrow.Author.Needs.{needs}
-use lib.Seq.{length-take-le}
+use Rattle.vectors.proofs.Counting.{counts}
 use Rattle.vectors.proofs.text.name_end.Statement.{statement}
 use Rattle.vectors.proofs.text.name_end.Tie as tie
 
@@ -9,7 +8,7 @@ find-requires : tie.Need-find-requires
 find-requires c κs = search needs
 
 returns : tie.Need-returns
-returns c = let found = c .find .ensures .1 in (found, sym (length-take-le _ _ found))
+returns c = counts _ _ (c .find .ensures .1)
 
 pub name-end-spec : {M : Type 1} → statement M
 name-end-spec = tie.close (tie.spec find-requires returns)
