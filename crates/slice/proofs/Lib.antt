@@ -1,0 +1,4 @@
+pub mod Exchange
+pub mod TailShares
+pub mod Rearranged
+pub mod Shares
