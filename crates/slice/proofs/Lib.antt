@@ -3,4 +3,5 @@ pub mod TailShares
 pub mod Rearranged
 pub mod Shares
 pub mod Turns
+pub mod Cases
 pub mod Parts
