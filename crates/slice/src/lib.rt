@@ -2,6 +2,7 @@
 ghost use mathlib.Core.Path.{_≡_};
 ghost use Prim.Native.Nat.{_-_, _^_, _≤_, min};
 ghost use lib.ListN.{length, take, drop};
+ghost use Rattle.slice.specs.Parts.{Lent};
 ghost use Rattle.slice.specs.Shuffled.{ended, shuffledFrom, partialShuffleOf, wholeShuffleOf};
 use counting::swap;
 use increasing_uniform::IncreasingUniform;
@@ -109,17 +110,18 @@ fn clipped(n: u64, length: usize) -> usize
 }
 
 // Lends the part of the slice from place n on: the shuffled tail, where n is what a shuffle answered. Above the length it is empty. Never
-// declines; the caller's slice holds, once the part is given back, the part in its place and the rest untouched.
+// declines, reads nothing and copies nothing: `Lent` says which entries of the caller's slice the part is.
 pub fn tail(items: &mut [u32], n: u64) -> &mut [u32]
-    ensures { λ r. ⌜ now r ≡ drop n (now (items .entry)) ⌝ }
+    ensures { λ r. ⌜ Lent (items .entry) r (min n (length (now (items .entry)))) (drop n (now (items .entry))) ⌝ }
 {
     let at = clipped(n, items.len());
     &mut items[at..]
 }
 
-// Lends the part of the slice before place n: what a partial shuffle left unshuffled. Above the length it is the whole slice. Never declines.
+// Lends the part of the slice before place n: what a partial shuffle left unshuffled. Above the length it is the whole slice. Never
+// declines, reads nothing and copies nothing (`Lent`).
 pub fn head(items: &mut [u32], n: u64) -> &mut [u32]
-    ensures { λ r. ⌜ now r ≡ take n (now (items .entry)) ⌝ }
+    ensures { λ r. ⌜ Lent (items .entry) r 0 (take n (now (items .entry))) ⌝ }
 {
     let at = clipped(n, items.len());
     &mut items[..at]

@@ -24,7 +24,10 @@ part-items-end c = search needs
 returns : tie.Need-returns
 returns c =
     let l = now (c .before .before .before .args .items) in
-    take-rest (c .before .clipped .result) l ∙ rw (c .before .clipped .ensures) (drop-clipped (c .before .before .before .args .n) l)
+    record {
+      place = rw (c .before .clipped .ensures);
+      holds = take-rest (c .before .clipped .result) l ∙ rw (c .before .clipped .ensures) (drop-clipped (c .before .before .before .args .n) l);
+    }
 
 pub tail-spec : {M : Type 1} → statement M
 tail-spec =
