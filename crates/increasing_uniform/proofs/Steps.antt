@@ -1,6 +1,6 @@
 -- One step of the state that hands out increasing indices, and what the steps to come hand out and read.
 -- Assumes nothing.
-use mathlib.Core.Path.{_≡_, refl, sym, ap, _∙_}
+use mathlib.Core.Path.{_≡_, refl, ap, _∙_}
 use mathlib.Core.Bool.{Bool, true, false, cond}
 use mathlib.Core.List.{List, [], _∷_}
 use Prim.Native.Nat.{ℕ, zero, suc, _+_, _-_, _*_, _/_, _%_, _≤_, _<_}
@@ -12,13 +12,12 @@ use borrow.Author.Tests.{eq-eqb, ne-eqb, eqb-true, eqb-false}
 use Rattle.xoshiro256plusplus.specs.declared.Xoshiro256PlusPlus.{Xoshiro256PlusPlus}
 use Rattle.uniform_int.specs.declared.Drawn.{Drawn}
 use Rattle.uniform_int.specs.Bounded.{bounded}
-use Rattle.uniform_int.specs.Draws.{Draws, draws, before}
+use Rattle.uniform_int.specs.Draws.{Draws, draws}
 use Rattle.uniform_int.proofs.Laws.{draws-nil, draws-cons, words-le, bounded-lt}
 use Rattle.increasing_uniform.specs.Bound.{ChunkBound}
-use Rattle.increasing_uniform.specs.Chunks.{factors, moreOf, digit, handed, chunkBounds, firstLeft, indicesOf, boundsOf}
+use Rattle.increasing_uniform.specs.Chunks.{factors, moreOf, digit, handed, chunkBounds, indicesOf, boundsOf}
 use Rattle.increasing_uniform.specs.State.{startOf, refill, refilledOf, filledOf, rest, handedOutOf, nextOf}
 use Rattle.increasing_uniform.specs.declared.IncreasingUniform.{IncreasingUniform}
-use Rattle.increasing_uniform.specs.declared.Index.{Index}
 use Rattle.increasing_uniform.proofs.ChunkShares.{factors-pos}
 use Rattle.increasing_uniform.proofs.Digits.{digit-lt, rest-lt}
 

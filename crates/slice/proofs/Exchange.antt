@@ -12,7 +12,7 @@ use borrow.Author.Tests.{eq-eqb, ne-eqb, eqb-true, eqb-false}
 use Rattle.counting.specs.Count.{oneIf}
 use Rattle.counting.specs.Lists.{howMany, swapAt}
 use Rattle.counting.proofs.Tests.{iff-bool}
-use Rattle.counting.proofs.Many.{length-swap, swap-place}
+use Rattle.counting.proofs.Many.{length-swap}
 use Rattle.counting.proofs.Places.{place-once}
 
 -- ---- values

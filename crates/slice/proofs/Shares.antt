@@ -8,7 +8,7 @@ use native.Mathlib.Omega.{arith}
 use lib.ListN.{length, drop}
 use Rattle.counting.specs.Count.{countLists}
 use Rattle.counting.specs.Lists.{same, howMany, Distinct, Within}
-use Rattle.increasing_uniform.specs.Chunks.{indicesOf, boundsOf, surplusOf}
+use Rattle.increasing_uniform.specs.Chunks.{indicesOf, surplusOf}
 use Rattle.increasing_uniform.proofs.Shares.{increasing-shares}
 use Rattle.slice.specs.Shuffle.{shuffleFrom, shuffleOf, shuffleBounds, shuffleShare}
 use Rattle.slice.specs.Shares.{OrderedTail, ShuffleShares}

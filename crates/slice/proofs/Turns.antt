@@ -1,18 +1,17 @@
 -- The partial shuffle, one exchange at a time.
 -- Assumes nothing.
 use mathlib.Core.Path.{_≡_, refl, sym, ap, _∙_}
-use mathlib.Core.List.{List, [], _∷_}
-use Prim.Native.Nat.{ℕ, zero, suc, _+_, _-_, _≤_, _<_}
+use mathlib.Core.List.{List}
+use Prim.Native.Nat.{ℕ, suc, _+_, _-_, _≤_, _<_}
 use native.Mathlib.Numerals.{add-one}
 use native.Mathlib.Omega.{arith}
 use lib.ListN.{length}
 use Rattle.counting.specs.Lists.{swapAt}
 use Rattle.counting.proofs.Many.{length-swap}
 use Rattle.xoshiro256plusplus.specs.declared.Xoshiro256PlusPlus.{Xoshiro256PlusPlus}
-use Rattle.uniform_int.specs.Draws.{draws}
 use Rattle.increasing_uniform.specs.State.{startOf, nextOf}
 use Rattle.increasing_uniform.specs.declared.IncreasingUniform.{IncreasingUniform}
-use Rattle.increasing_uniform.proofs.Steps.{Sound, start-sound, next-n, next-lt, next-sound, Coming, coming, handing, coming-start, coming-none, coming-next}
+use Rattle.increasing_uniform.proofs.Steps.{Sound, start-sound, next-n, next-lt, next-sound, Coming, coming, coming-start, coming-none, coming-next}
 use Rattle.slice.specs.Shuffle.{shuffleFrom, shuffleOf, shuffleBounds}
 use Rattle.slice.specs.Shuffled.{answerOf, Shuffling, shuffledFrom}
 use Rattle.slice.specs.declared.Outcome.the-variants.{Done}

@@ -3,7 +3,6 @@ use Prim.Native.Nat.{_-_, _^_}
 use native.Mathlib.Omega.{arith}
 use borrow.Author.Needs.{needs}
 use Rattle.xoshiro256plusplus.proofs.Halves.{product-lt}
-use Rattle.increasing_uniform.specs.Bound.{ChunkBound}
 use Rattle.increasing_uniform.proofs.Bounds.{Product, begin, room, turn, finish, chunk-bound-2}
 use Rattle.increasing_uniform.proofs.calculate_bound_u32.Statement.{statement}
 use Rattle.increasing_uniform.proofs.calculate_bound_u32.Tie as tie

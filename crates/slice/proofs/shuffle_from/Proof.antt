@@ -1,11 +1,10 @@
 -- `shuffle_from` meets its contract. The invariant is `Turn`. Assumes nothing.
-use mathlib.Core.Path.{_≡_, ap, _∙_}
-use Prim.Native.Nat.{_-_, _<_}
+use mathlib.Core.Path.{ap, _∙_}
+use Prim.Native.Nat.{_-_}
 use native.Mathlib.Omega.{arith}
 use borrow.Author.Needs.{needs}
 use denote.Ref.{now}
-use Rattle.xoshiro256plusplus.specs.declared.Xoshiro256PlusPlus.{Xoshiro256PlusPlus}
-use Rattle.increasing_uniform.specs.State.{startOf, nextOf}
+use Rattle.increasing_uniform.specs.State.{startOf}
 use Rattle.increasing_uniform.specs.declared.IncreasingUniform.{IncreasingUniform}
 use Rattle.slice.specs.Shuffled.{shuffledFrom}
 use Rattle.slice.proofs.Turns.{Turn, begin, index-lt, turn, finish}
