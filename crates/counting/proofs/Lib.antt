@@ -5,3 +5,4 @@ pub mod CountsOfLists
 pub mod Same
 pub mod Distinct
 pub mod Many
+pub mod Places

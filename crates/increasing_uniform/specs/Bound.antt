@@ -1,0 +1,11 @@
+-- The bound of a chunk that starts at m: as many factors as stay within 2 ^ 32 - 1.
+use mathlib.Core.Path.{_≡_}
+use Prim.Native.Nat.{ℕ, suc, _-_, _^_, _≤_, _<_}
+use Rattle.increasing_uniform.specs.Chunks.{factors, moreOf}
+
+pub record ChunkBound (m bound size : ℕ) : Type 0 where
+  pub factors-of : bound ≡ factors m (suc (moreOf m))
+  pub number : size ≡ suc (moreOf m)
+  -- the bound stays within, and one factor more would not
+  pub within : bound ≤ 2 ^ 32 - 1
+  pub no-more : 2 ^ 32 - 1 < factors m (suc size)

@@ -1,0 +1,151 @@
+// Indices below 1, 2, 3, .. for the steps of a shuffle, as in rand's `increasing_uniform.rs`. One bounded draw, a chunk, serves for
+// several indices.
+ghost use mathlib.Core.Path.{_≡_};
+ghost use Prim.Native.Nat.{_-_, _*_, _^_, _≤_, _<_};
+ghost use Rattle.increasing_uniform.specs.Bound.{ChunkBound};
+ghost use Rattle.increasing_uniform.specs.Chunks.{digit};
+ghost use Rattle.increasing_uniform.specs.State.{startOf, filledOf, rest, handedOutOf, nextOf};
+use uniform_int::random_range;
+use xoshiro256plusplus::Xoshiro256PlusPlus;
+
+// The bound of a chunk, and the number of its factors.
+struct Bound {
+    pub bound: u32,
+    pub count: u32,
+}
+
+// The bound m * (m + 1) * .. with as many factors as stay within 2^32 - 1, and their number: at most 12.
+fn calculate_bound_u32(m: u32) -> Bound
+    requires { ⌜ (0 < m) × (m < 2 ^ 32 - 1) ⌝ }
+    ensures { λ b. ⌜ ChunkBound m (b .bound) (b .count) ⌝ }
+{
+    // As in rand: shuffles of short slices need this one only.
+    if m == 2 {
+        return Bound {
+            bound: 479001600,
+            count: 11,
+        };
+    }
+    let mut product = m;
+    let mut current = m + 1;
+    loop {
+        let wide = product as u64 * current as u64;
+        if wide > 0xffff_ffff {
+            break;
+        }
+        product = wide as u32;
+        current += 1;
+    }
+    Bound {
+        bound: product,
+        count: current - m,
+    }
+}
+
+// An index, and what is left of its chunk.
+struct Digit {
+    pub value: u32,
+    pub rest: u32,
+}
+
+// The index for m of a chunk that holds so many later ones. The last one is the chunk itself, and takes no division.
+fn first_digit(chunk: u32, m: u32, later: u32) -> Digit
+    requires { ⌜ 0 < m ⌝ }
+    ensures { λ d. ⌜ (d .value ≡ digit m later chunk) × (d .rest ≡ rest m later chunk) ⌝ }
+{
+    if later == 0 {
+        return Digit {
+            value: chunk,
+            rest: chunk,
+        };
+    }
+    Digit {
+        value: chunk % m,
+        rest: chunk / m,
+    }
+}
+
+// Hands out an index for m = n + 1, then for n + 2, and so on. The chunk is a number below (n + 1) * .. * (n + chunk_remaining), of which
+// the next indices are the digits. `words` counts those read so far.
+pub struct IncreasingUniform {
+    pub rng: Xoshiro256PlusPlus,
+    pub n: u32,
+    pub chunk: u32,
+    pub chunk_remaining: u32,
+    pub words: u64,
+}
+
+// An index, and the state after it.
+pub struct Index {
+    pub value: u32,
+    pub state: IncreasingUniform,
+}
+
+impl IncreasingUniform {
+    // The first index will be for m = n + 1. For n = 0 it is 0, and no word is read for it.
+    pub fn new(rng: Xoshiro256PlusPlus, n: u32) -> Self
+        ensures { λ s. ⌜ s ≡ startOf rng n ⌝ }
+    {
+        let chunk_remaining = if n == 0 { 1 } else { 0 };
+        IncreasingUniform {
+            rng: rng,
+            n: n,
+            chunk: 0,
+            chunk_remaining: chunk_remaining,
+            words: 0,
+        }
+    }
+
+    // The state with a chunk that is not empty: an empty one is refilled by a bounded draw.
+    fn filled(self) -> Self
+        requires { ⌜ (self .n < 2 ^ 32 - 2) × (self .words ≤ 2 * self .n) ⌝ }
+        ensures { λ s. ⌜ s ≡ filledOf self ⌝ }
+    {
+        if self.chunk_remaining > 0 {
+            return self;
+        }
+        let bound = calculate_bound_u32(self.n + 1);
+        let rng = self.rng;
+        let drawn = random_range(rng, bound.bound);
+        let after = drawn.rng;
+        IncreasingUniform {
+            rng: after,
+            n: self.n,
+            chunk: drawn.value,
+            chunk_remaining: bound.count,
+            words: self.words + drawn.words,
+        }
+    }
+
+    // The next index of a chunk that is not empty.
+    fn hand_out(self) -> Index
+        requires { ⌜ (self .n < 2 ^ 32 - 2) × (0 < self .«chunk_remaining») ⌝ }
+        ensures { λ r. ⌜ r ≡ handedOutOf self ⌝ }
+    {
+        let next_n = self.n + 1;
+        let left = self.chunk_remaining - 1;
+        let digit = first_digit(self.chunk, next_n, left);
+        let rng = self.rng;
+        let state = IncreasingUniform {
+            rng: rng,
+            n: next_n,
+            chunk: digit.rest,
+            chunk_remaining: left,
+            words: self.words,
+        };
+        Index {
+            value: digit.value,
+            state: state,
+        }
+    }
+
+    // The index for m = n + 1, and the state for the next one. The definition is `nextOf`; w steps from the start hand out `indicesOf`, and
+    // each list of indices has the same share of the lists of chunk values (`IncreasingShares`). At most two words are read.
+    pub fn next_index(self) -> Index
+        requires { ⌜ (self .n < 2 ^ 32 - 2) × (self .words ≤ 2 * self .n) ⌝ }
+        ensures { λ r. ⌜ r ≡ nextOf self ⌝ }
+    {
+        let full = self.filled();
+        full.hand_out()
+    }
+}

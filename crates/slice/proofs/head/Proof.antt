@@ -1,0 +1,28 @@
+-- `head` meets its contract: the part before a clipped place is the part before that place. Assumes nothing.
+use mathlib.Core.Path.{sym, ap}
+use Prim.Native.Nat.{ℕ}
+use native.Mathlib.Nat.{zero-add}
+use native.Mathlib.Omega.{arith}
+use lib.ListN.{length-take}
+use denote.Ref.{ptr, now}
+use Rattle.slice.proofs.Parts.{take-clipped}
+use borrow.Author.Needs.{needs}
+use Rattle.slice.proofs.head.Statement.{statement}
+use Rattle.slice.proofs.head.Tie as tie
+
+clipped-requires : tie.Need-clipped-requires
+clipped-requires c κs = search needs
+
+slice-aggregate-result : tie.Need-slice-aggregate-result
+slice-aggregate-result c = omega (arith, length-take (c .before .clipped .result) (now (c .before .before .before .args .items)))
+
+returns : tie.Need-returns
+returns c =
+    let items = c .before .before .before .args .items in
+    record {
+      place = ap (λ (o : ℕ). (ptr items .0, o)) (sym (zero-add (ptr items .1)));
+      holds = rw (c .before .clipped .ensures) (take-clipped (c .before .before .before .args .n) (now items));
+    }
+
+pub head-spec : {M : Type 1} → statement M
+head-spec = tie.close (tie.spec clipped-requires slice-aggregate-result returns)

@@ -1,0 +1,35 @@
+-- `tail` meets its contract: a part from a clipped place on is the part from that place on. Assumes nothing.
+use mathlib.Core.Path.{_∙_}
+use denote.Ref.{now}
+use Rattle.slice.proofs.Parts.{drop-clipped, take-rest}
+use borrow.Author.Needs.{needs}
+use Rattle.slice.proofs.tail.Statement.{statement}
+use Rattle.slice.proofs.tail.Tie as tie
+
+clipped-requires : tie.Need-clipped-requires
+clipped-requires c κs = search needs
+
+mul-items : tie.Need-mul-items
+mul-items c = search needs
+
+sub-result : tie.Need-sub-result
+sub-result c = search needs
+
+part-items-start : tie.Need-part-items-start
+part-items-start c = search needs
+
+part-items-end : tie.Need-part-items-end
+part-items-end c = search needs
+
+returns : tie.Need-returns
+returns c =
+    let l = now (c .before .before .before .args .items) in
+    record {
+      place = rw (c .before .clipped .ensures);
+      holds = take-rest (c .before .clipped .result) l ∙ rw (c .before .clipped .ensures) (drop-clipped (c .before .before .before .args .n) l);
+    }
+
+pub tail-spec : {M : Type 1} → statement M
+tail-spec =
+    tie.close
+    (tie.spec clipped-requires mul-items sub-result part-items-start part-items-end returns)

@@ -1,0 +1,4 @@
+pub mod Shuffle
+pub mod Shuffled
+pub mod Shares
+pub mod Parts

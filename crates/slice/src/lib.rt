@@ -1,0 +1,128 @@
+// Shuffles of a slice, as in rand's `slice.rs`.
+ghost use mathlib.Core.Path.{_≡_};
+ghost use Prim.Native.Nat.{_-_, _^_, _≤_, min};
+ghost use lib.ListN.{length, take, drop};
+ghost use Rattle.slice.specs.Parts.{Lent};
+ghost use Rattle.slice.specs.Shuffled.{ended, shuffledFrom, partialShuffleOf, wholeShuffleOf};
+use counting::swap;
+use increasing_uniform::IncreasingUniform;
+use refusal::Refusal;
+use xoshiro256plusplus::Xoshiro256PlusPlus;
+
+// How a shuffle ends. The definition `answerOf` gives the table's number and the values of each case.
+pub enum Outcome {
+    Done,
+    Refused(Refusal),
+}
+
+// The outcome, the place where the shuffled tail starts, the words read, and the generator after them.
+pub struct Shuffled {
+    pub outcome: Outcome,
+    pub n: u64,
+    pub words: u64,
+    pub rng: Xoshiro256PlusPlus,
+}
+
+// A refusal: nothing is read.
+fn refused(refusal: Refusal, rng: Xoshiro256PlusPlus) -> Shuffled
+    ensures { λ r. ⌜ r ≡ record { outcome = Outcome.Refused refusal; n = 0; words = 0; rng = rng } ⌝ }
+{
+    Shuffled {
+        outcome: Outcome::Refused(refusal),
+        n: 0,
+        words: 0,
+        rng: rng,
+    }
+}
+
+// Where the tail of so many of `length` items starts.
+fn tail_start(length: u64, amount: u64) -> u64
+    ensures { λ n. ⌜ n ≡ length - amount ⌝ }
+{
+    if amount < length {
+        return length - amount;
+    }
+    0
+}
+
+// For each place from n to the end, exchanges it with one not above it, drawn evenly.
+fn shuffle_from(rng: Xoshiro256PlusPlus, items: &mut [u32], n: u64) -> Shuffled
+    requires { ⌜ (n ≤ length (now items)) × (length (now items) ≤ 2 ^ 32 - 2) ⌝ }
+    ensures { λ r. ⌜ ended r (now (items .exit)) ≡ shuffledFrom n rng (now (items .entry)) ⌝ }
+{
+    let first = n as u32;
+    let mut chooser = IncreasingUniform::new(rng, first);
+    let start = n as usize;
+    let end = items.len();
+    for i in start..end {
+        let index = chooser.next_index();
+        let state = index.state;
+        chooser = state;
+        let there = index.value as usize;
+        swap(items, i, there);
+    }
+    let after = chooser.rng;
+    Shuffled {
+        outcome: Outcome::Done,
+        n: n,
+        words: chooser.words,
+        rng: after,
+    }
+}
+
+// Shuffles `amount` of the items to the end of the slice and answers n = max(0, length - amount), where that tail starts: `tail` and `head`
+// lend the parts. The head keeps the other items in an order that is not shuffled. Declines a generator whose state is all zero (12) and
+// more than 2^32 - 2 items (10), and then reads nothing and leaves the slice as it is. As many exchanges as are asked for, and a bounded
+// draw for each chunk of them: 11 or fewer exchanges to a chunk. The definition is `partialShuffleOf`; each ordered tail of distinct items has
+// the same share of the lists of chunk values (`ShuffleShares`).
+pub fn partial_shuffle(rng: Xoshiro256PlusPlus, items: &mut [u32], amount: u64) -> Shuffled
+    ensures { λ r. ⌜ ended r (now (items .exit)) ≡ partialShuffleOf amount rng (now (items .entry)) ⌝ }
+{
+    if rng.is_zero() {
+        return refused(Refusal::ZeroState, rng);
+    }
+    let length = items.len() as u64;
+    if length > 0xffff_fffe {
+        return refused(Refusal::TooLong, rng);
+    }
+    let n = tail_start(length, amount);
+    shuffle_from(rng, items, n)
+}
+
+// Shuffles the whole slice: a partial shuffle whose amount is the length. Fewer than two items are left as they are, and no word is read for
+// them. The definition is `wholeShuffleOf`; refusals, cost and shares are those of `partial_shuffle`.
+pub fn shuffle(rng: Xoshiro256PlusPlus, items: &mut [u32]) -> Shuffled
+    ensures { λ r. ⌜ ended r (now (items .exit)) ≡ wholeShuffleOf rng (now (items .entry)) ⌝ }
+{
+    let length = items.len() as u64;
+    partial_shuffle(rng, items, length)
+}
+
+// The place n, or the length where n is above it.
+fn clipped(n: u64, length: usize) -> usize
+    ensures { λ r. ⌜ r ≡ min n length ⌝ }
+{
+    let most = length as u64;
+    if n < most {
+        return n as usize;
+    }
+    length
+}
+
+// Lends the part of the slice from place n on: the shuffled tail, where n is what a shuffle answered. Above the length it is empty. Never
+// declines, reads nothing and copies nothing: `Lent` says which entries of the caller's slice the part is.
+pub fn tail(items: &mut [u32], n: u64) -> &mut [u32]
+    ensures { λ r. ⌜ Lent (items .entry) r (min n (length (now (items .entry)))) (drop n (now (items .entry))) ⌝ }
+{
+    let at = clipped(n, items.len());
+    &mut items[at..]
+}
+
+// Lends the part of the slice before place n: what a partial shuffle left unshuffled. Above the length it is the whole slice. Never
+// declines, reads nothing and copies nothing (`Lent`).
+pub fn head(items: &mut [u32], n: u64) -> &mut [u32]
+    ensures { λ r. ⌜ Lent (items .entry) r 0 (take n (now (items .entry))) ⌝ }
+{
+    let at = clipped(n, items.len());
+    &mut items[..at]
+}
