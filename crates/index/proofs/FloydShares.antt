@@ -13,7 +13,8 @@ use Rattle.counting.proofs.Tests.{is-false}
 use Rattle.counting.proofs.Sums.{sum-single}
 use Rattle.counting.proofs.Same.{same-true, same-iff, snoc-inj, snoc-of}
 use Rattle.counting.proofs.Distinct.{below-snoc, snoc-below, below-mono, distinct-snoc, below-not-member}
-use Rattle.index.specs.Floyd.{replaced, floydFrom, floydOf, rising, floydBounds}
+use Rattle.counting.specs.Bounds.{rising}
+use Rattle.index.specs.Floyd.{replaced, floydFrom, floydOf, floydBounds}
 use Rattle.index.proofs.Replaced.{back, length-replaced, below-replaced, distinct-replaced, below-back}
 
 -- of the draws t up to j, only the last entry d leads to xs and d, and from one list only

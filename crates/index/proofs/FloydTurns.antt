@@ -13,7 +13,8 @@ use Rattle.xoshiro256plusplus.specs.declared.Xoshiro256PlusPlus.{Xoshiro256Plus
 use Rattle.uniform_int.specs.Bounded.{bounded}
 use Rattle.uniform_int.specs.Draws.{Draws, draws, before}
 use Rattle.uniform_int.proofs.Laws.{words-le, draws-nil, draws-cons}
-use Rattle.index.specs.Floyd.{replaced, floydFrom, floydOf, rising, floydBounds}
+use Rattle.counting.specs.Bounds.{rising}
+use Rattle.index.specs.Floyd.{replaced, floydFrom, floydOf, floydBounds}
 use Rattle.index.specs.Sample.{FloydSample}
 use Rattle.index.specs.declared.floyd.Position.{Position}
 use Rattle.index.specs.declared.floyd.Position.the-variants.{At, Nowhere}

@@ -15,7 +15,8 @@ use Rattle.counting.specs.Lists.{member, howMany, swapAt, Distinct, Below, With
 use Rattle.counting.proofs.Tests.{or-false, false-or, eqb-sym}
 use Rattle.counting.proofs.Distinct.{snoc-below, snoc-distinct, below-mono, below-not-member, below-take, distinct-take}
 use Rattle.counting.proofs.Many.{many-swap, length-swap, many-distinct, many-below}
-use Rattle.index.specs.Floyd.{replaced, floydFrom, floydOf, rising, floydBounds}
+use Rattle.counting.specs.Bounds.{rising}
+use Rattle.index.specs.Floyd.{replaced, floydFrom, floydOf, floydBounds}
 use Rattle.index.specs.InPlace.{upTo, swapsFrom, arranged, falling}
 use Rattle.index.specs.Rejection.{rejectFrom, rejectionOf}
 use Rattle.index.specs.Shares.{SampleOf}

@@ -1,8 +1,9 @@
 -- Floyd's method (Bentley and Floyd, "Programming pearls: a sample of brilliance", 1987), in the form that keeps the order random.
 use mathlib.Core.Bool.{true, false}
 use mathlib.Core.List.{List, [], _∷_, _++_}
-use Prim.Native.Nat.{ℕ, zero, suc, _-_}
+use Prim.Native.Nat.{ℕ, suc, _-_}
 use lib.Dec.{eqb}
+use Rattle.counting.specs.Bounds.{rising}
 
 -- the first entry equal to t becomes j
 unfoldable pub replaced : (t j : ℕ) → List ℕ → List ℕ
@@ -17,11 +18,6 @@ floydFrom j held (t ∷ ts) = floydFrom (suc j) (replaced t j held ++ (t ∷ [])
 -- the sample that the draws give
 unfoldable pub floydOf : (n amount : ℕ) → List ℕ → List ℕ
 floydOf n amount ts = floydFrom (n - amount) [] ts
-
--- m bounds: j + 1, j + 2, ..
-unfoldable pub rising : (j m : ℕ) → List ℕ
-rising j zero = []
-rising j (suc m) = suc j ∷ rising (suc j) m
 
 -- the draws' bounds: j + 1 for j from n - amount to n - 1
 unfoldable pub floydBounds : (n amount : ℕ) → List ℕ
