@@ -1,0 +1,2 @@
+pub mod ReservoirShares
+pub mod Shares
