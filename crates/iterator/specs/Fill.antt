@@ -12,17 +12,24 @@ use Rattle.refusal.specs.declared.Refusal.the-variants.{TooLong, ZeroState}
 use Rattle.xoshiro256plusplus.specs.Generator.{zeroState}
 use Rattle.xoshiro256plusplus.specs.declared.Xoshiro256PlusPlus.{Xoshiro256PlusPlus}
 use Rattle.uniform_int.specs.Draws.{draws}
-use Rattle.iterator.specs.Reservoir.{fillFrom, fillOf, fillBounds}
+use Rattle.iterator.specs.Reservoir.{fillFront, fillFrom, fillOf, fillBounds}
 use Rattle.iterator.specs.declared.reservoir.Reading.{Reading}
 use Rattle.iterator.specs.declared.Outcome.{Outcome}
 use Rattle.iterator.specs.declared.Outcome.the-variants.{Done, Refused}
 use Rattle.iterator.specs.declared.Filled.{Filled}
 
--- what the function over the items past the buffer's length promises
+-- ---- what the functions over the first items, and over those past the buffer's length, promise
+
+pub record FrontFilled (items before after : List ℕ) (r : ℕ) : Type 0 where
+  pub count : r ≡ min (length items) (length before)
+  pub buf : after ≡ fillFront before items
+
 pub record Replaced (items : List ℕ) (g : Xoshiro256PlusPlus) (before after : List ℕ) (r : Reading) : Type 0 where
   pub buf : after ≡ fillFrom before (drop (length before) items) (draws (fillBounds (length before) (length items)) g .values)
   pub words : r .words ≡ draws (fillBounds (length before) (length items)) g .words
   pub rng : r .rng ≡ draws (fillBounds (length before) (length items)) g .rng
+
+-- ---- the call
 
 -- the number and the values of each case of the answer: the value is the count of slots filled
 abbrev pub answerOf : Outcome → ℕ → Answer

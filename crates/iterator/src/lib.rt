@@ -1,6 +1,8 @@
 // Samples from a row of items that is read once, as in rand's `iterator.rs`.
 ghost use mathlib.Core.Path.{_≡_};
-ghost use Rattle.iterator.specs.Fill.{ended, sampleFillOf};
+ghost use Prim.Native.Nat.{_-_, _^_, _≤_};
+ghost use lib.ListN.{length};
+ghost use Rattle.iterator.specs.Fill.{ended, fills, sampleFillOf};
 use refusal::Refusal;
 use reservoir::fill_front;
 use reservoir::replace_slots;
@@ -34,6 +36,22 @@ fn refused(why: Refusal, rng: Xoshiro256PlusPlus) -> Filled
     }
 }
 
+// The fill of a good call: the first items, and then the draws.
+fn fill(rng: Xoshiro256PlusPlus, items: &[u32], buf: &mut [u32]) -> Filled
+    requires { ⌜ length (now items) ≤ 2 ^ 32 - 2 ⌝ }
+    ensures { λ r. ⌜ ended r (now (buf .exit)) ≡ fills rng (now (items .entry)) (now (buf .entry)) ⌝ }
+{
+    let count = fill_front(items, buf) as u64;
+    let reading = replace_slots(rng, items, buf);
+    let after = reading.rng;
+    Filled {
+        outcome: Outcome::Done,
+        count: count,
+        words: reading.words,
+        rng: after,
+    }
+}
+
 // Fills the buffer with a sample of as many items as it has slots, and answers how many slots are filled: all of them, or as many as there are
 // items; slots past the items keep what they held. The definition is `sampleFillOf`. Each set of items has the same share of the lists of
 // draws (`ReservoirShares`); the order in the buffer is neither that of the items nor random. Declines a generator whose state is all zero (12)
@@ -49,13 +67,5 @@ pub fn sample_fill(rng: Xoshiro256PlusPlus, items: &[u32], buf: &mut [u32]) -> F
     if items.len() > 0xffff_fffe {
         return refused(Refusal::TooLong, rng);
     }
-    let count = fill_front(items, buf) as u64;
-    let reading = replace_slots(rng, items, buf);
-    let after = reading.rng;
-    Filled {
-        outcome: Outcome::Done,
-        count: count,
-        words: reading.words,
-        rng: after,
-    }
+    fill(rng, items, buf)
 }

@@ -2,8 +2,7 @@
 ghost use mathlib.Core.Path.{_≡_};
 ghost use Prim.Native.Nat.{_-_, _^_, _≤_, min};
 ghost use lib.ListN.{length};
-ghost use Rattle.iterator.specs.Reservoir.{fillFront};
-ghost use Rattle.iterator.specs.Fill.{Replaced};
+ghost use Rattle.iterator.specs.Fill.{FrontFilled, Replaced};
 use uniform_int::random_range;
 use xoshiro256plusplus::Xoshiro256PlusPlus;
 
@@ -25,7 +24,7 @@ fn smaller(a: usize, b: usize) -> usize
 
 // Copies the first items to the front of the buffer until one of the two ends, and answers how many.
 pub(crate) fn fill_front(items: &[u32], buf: &mut [u32]) -> usize
-    ensures { λ r. ⌜ (r ≡ min (length (now (items .entry))) (length (now (buf .entry)))) × (now (buf .exit) ≡ fillFront (now (buf .entry)) (now (items .entry))) ⌝ }
+    ensures { λ r. ⌜ FrontFilled (now (items .entry)) (now (buf .entry)) (now (buf .exit)) r ⌝ }
 {
     let count = smaller(items.len(), buf.len());
     for i in 0..count {

@@ -1,58 +1,59 @@
+-- `fill_front` meets its contract: the front is copied up to `i`. Assumes nothing.
+use mathlib.Core.Path.{_≡_, _∙_}
+use mathlib.Core.List.{_++_}
+use Prim.Native.Nat.{_-_, _≤_}
+use native.Mathlib.Omega.{arith}
+use denote.Ref.{now}
+use lib.ListN.{length, take, drop, length-set}
+use borrow.Author.Needs.{needs}
+use Rattle.iterator.proofs.Turns.{copied, all-copied}
 use Rattle.iterator.proofs.reservoir.fill_front.Statement.{statement}
 use Rattle.iterator.proofs.reservoir.fill_front.Tie as tie
-use Rattle.iterator.proofs.reservoir.fill_front.Reads as reads
-use Rattle.iterator.proofs.reservoir.fill_front.Lts as lts
-use Rattle.iterator.proofs.reservoir.smaller.Reads as smaller-reads
 
 abbrev Inv-loop : tie.InvT-loop
-Inv-loop items buf₀ count i₀ buf i = ?
+Inv-loop items buf₀ count i₀ buf i = (i ≤ count) × (length buf ≡ length buf₀) × (buf ≡ take i items ++ drop i buf₀)
 
 abbrev μ-loop : tie.MeasureT-loop
-μ-loop items buf₀ count i₀ buf i = ?
+μ-loop items buf₀ count i₀ buf i = count - i
 
--- src/reservoir.rt:30:9
 smaller-requires : tie.Need-smaller-requires Inv-loop μ-loop
-smaller-requires c κs = ?
+smaller-requires c κs = search needs
 
--- src/reservoir.rt:31:5
 loop-holds : tie.Need-loop-holds Inv-loop μ-loop
-loop-holds c = ?
+loop-holds c = search needs
 
--- src/reservoir.rt:32:18
 mul-buf : tie.Need-mul-buf Inv-loop μ-loop
-mul-buf c = ?
+mul-buf c = search needs
 
--- src/reservoir.rt:32:18
 shared-slice-read-buf : tie.Need-shared-slice-read-buf Inv-loop μ-loop
-shared-slice-read-buf c = ?
+shared-slice-read-buf c = search needs
 
--- src/reservoir.rt:32:9
 mul-buf-2 : tie.Need-mul-buf-2 Inv-loop μ-loop
-mul-buf-2 c = ?
+mul-buf-2 c = search needs
 
--- src/reservoir.rt:32:9
 slice-write-buf : tie.Need-slice-write-buf Inv-loop μ-loop
-slice-write-buf c = ?
+slice-write-buf c = search needs
 
--- src/reservoir.rt:31:9
 add-i : tie.Need-add-i Inv-loop μ-loop
-add-i c = ?
+add-i c = search needs
 
--- src/reservoir.rt:31:5
 loop-less : tie.Need-loop-less Inv-loop μ-loop
-loop-less c = ?
+loop-less c = search needs
 
--- src/reservoir.rt:31:5
 loop-again : tie.Need-loop-again Inv-loop μ-loop
-loop-again c = ?
+loop-again c =
+    let l = c .before .before .loop in
+    let a = c .before .before .before .before .before .before .args in
+    (omega arith, simp length-set (l .inv .1), rw (l .inv .2) (copied (now (a .items)) (now (a .buf)) (l .i) (omega arith) (omega arith)))
 
--- src/reservoir.rt:27:1
 same-length : tie.Need-same-length Inv-loop μ-loop
-same-length c = ?
+same-length c = search needs
 
--- src/reservoir.rt:27:1
 returns : tie.Need-returns Inv-loop μ-loop
-returns c = ?
+returns c =
+    let l = c .before .loop in
+    let a = c .before .before .before .before .before .args in
+    record { count = search needs; buf = l .inv .2 ∙ all-copied (now (a .items)) (now (a .buf)) (l .i) (omega arith) }
 
 pub fill-front-spec : {M : Type 1} → statement M
 fill-front-spec =

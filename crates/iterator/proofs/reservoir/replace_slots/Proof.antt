@@ -1,74 +1,77 @@
+-- `replace_slots` meets its contract. The invariant is `Turn`. Assumes nothing.
+use mathlib.Core.Path.{_≡_}
+use mathlib.Core.Logic.{⊎-elim}
+use Prim.Native.Nat.{_+_, _-_}
+use native.Mathlib.Omega.{arith}
+use denote.Ref.{now}
+use borrow.Author.Needs.{needs}
+use Rattle.uniform_int.proofs.Laws.{words-le}
+use Rattle.iterator.proofs.Turns.{Turn, begin, turn, turn-out, finish}
 use Rattle.iterator.proofs.reservoir.replace_slots.Statement.{statement}
 use Rattle.iterator.proofs.reservoir.replace_slots.Tie as tie
-use Rattle.iterator.proofs.reservoir.replace_slots.Reads as reads
-use Rattle.iterator.proofs.reservoir.replace_slots.Lts as lts
-use Rattle.uniform_int.proofs.random_range.Reads as random-range-reads
 
 abbrev Inv-loop : tie.InvT-loop
-Inv-loop items buf₀ state₀ words₀ slots end p₀ buf state words p = ?
+Inv-loop items buf₀ state₀ words₀ slots end p₀ buf state words p = Turn items state₀ buf₀ state buf words p
 
 abbrev μ-loop : tie.MeasureT-loop
-μ-loop items buf₀ state₀ words₀ slots end p₀ buf state words p = ?
+μ-loop items buf₀ state₀ words₀ slots end p₀ buf state words p = end - p
 
--- src/reservoir.rt:47:5
 loop-holds : tie.Need-loop-holds Inv-loop μ-loop
-loop-holds c = ?
+loop-holds c = begin _ _ _
 
--- src/reservoir.rt:48:22
 add-range : tie.Need-add-range Inv-loop μ-loop
-add-range c = ?
+add-range c = search needs
 
--- src/reservoir.rt:48:21
 cast-range : tie.Need-cast-range Inv-loop μ-loop
-cast-range c = ?
+cast-range c = search needs
 
--- src/reservoir.rt:49:13
 random-range-requires : tie.Need-random-range-requires Inv-loop μ-loop
-random-range-requires c κs = ?
+random-range-requires c κs = search needs
 
--- src/reservoir.rt:52:9
 add-words : tie.Need-add-words Inv-loop μ-loop
-add-words c = ?
+add-words c =
+    let l = c .before .before .before .before .loop in
+    rw (c .before .before .random-range .ensures) (omega (arith, words-le (l .p + 1) (l .state), l .inv .few))
 
--- src/reservoir.rt:53:17
 cast-k : tie.Need-cast-k Inv-loop μ-loop
-cast-k c = ?
+cast-k c = search needs
 
--- src/reservoir.rt:55:22
 mul-buf : tie.Need-mul-buf Inv-loop μ-loop
-mul-buf c = ?
+mul-buf c = search needs
 
--- src/reservoir.rt:55:22
 shared-slice-read-buf : tie.Need-shared-slice-read-buf Inv-loop μ-loop
-shared-slice-read-buf c = ?
+shared-slice-read-buf c = search needs
 
--- src/reservoir.rt:55:13
 mul-buf-2 : tie.Need-mul-buf-2 Inv-loop μ-loop
-mul-buf-2 c = ?
+mul-buf-2 c = search needs
 
--- src/reservoir.rt:55:13
 slice-write-buf : tie.Need-slice-write-buf Inv-loop μ-loop
-slice-write-buf c = ?
+slice-write-buf c = search needs
 
--- src/reservoir.rt:47:9
 add-p : tie.Need-add-p Inv-loop μ-loop
-add-p c = ?
+add-p c = search needs
 
--- src/reservoir.rt:47:5
 loop-less : tie.Need-loop-less Inv-loop μ-loop
-loop-less c = ?
+loop-less c = search needs
 
--- src/reservoir.rt:47:5
 loop-again : tie.Need-loop-again Inv-loop μ-loop
-loop-again c = ?
+loop-again c =
+    let l = c .before .before .before .before .before .before .loop in
+    let a = c .before .before .before .before .before .before .before .before .before .args in
+    let d = c .before .before .before .before .random-range .ensures in
+    ⊎-elim
+    (λ w. rw (w .2, d) (turn (now (a .items)) (a .rng) (now (a .buf)) (l .state) (l .buf) (l .words) (l .p) (l .inv) (omega arith)))
+    (λ w. rw (w .1, d) (turn-out (now (a .items)) (a .rng) (now (a .buf)) (l .state) (l .buf) (l .words) (l .p) (l .inv) (omega arith) (rw d at (w .0 .left))))
+    (c .if1 .came)
 
--- src/reservoir.rt:39:1
 same-length : tie.Need-same-length Inv-loop μ-loop
-same-length c = ?
+same-length c = search needs
 
--- src/reservoir.rt:39:1
 returns : tie.Need-returns Inv-loop μ-loop
-returns c = ?
+returns c =
+    let l = c .before .loop in
+    let a = c .before .before .before .before .args in
+    finish (now (a .items)) (a .rng) (now (a .buf)) (l .state) (l .buf) (l .words) (l .p) (l .inv) (omega arith)
 
 pub replace-slots-spec : {M : Type 1} → statement M
 replace-slots-spec =
