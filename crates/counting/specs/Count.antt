@@ -30,3 +30,8 @@ countLists p (b ∷ bs) = sum (λ d. countLists (λ ds. p (d ∷ ds)) bs) b
 unfoldable pub product : List ℕ → ℕ
 product [] = 1
 product (b ∷ bs) = b * product bs
+
+-- 1 * 2 * .. * n
+unfoldable pub factorial : ℕ → ℕ
+factorial zero = 1
+factorial (suc n) = suc n * factorial n

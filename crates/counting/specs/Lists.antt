@@ -1,4 +1,4 @@
--- What is said of lists of numbers: that two are the same, that no entry stands twice, that entries are below bounds.
+-- What is said of lists of numbers: that two are the same, or the same set, that no entry stands twice, that entries are below bounds.
 use mathlib.Core.Path.{_≡_}
 use mathlib.Core.Bool.{Bool, true, false, _&&_, _||_}
 use mathlib.Core.List.{List, [], _∷_}
@@ -18,6 +18,15 @@ same (x ∷ xs) (y ∷ ys) = eqb x y && same xs ys
 abbrev pub member : ℕ → List ℕ → Bool
 member a [] = false
 member a (x ∷ xs) = eqb a x || member a xs
+
+-- whether every entry of the first list is one of the second
+abbrev pub allIn : List ℕ → List ℕ → Bool
+allIn [] ys = true
+allIn (x ∷ xs) ys = member x ys && allIn xs ys
+
+-- whether two lists have the same entries, order aside
+abbrev pub sameSet : List ℕ → List ℕ → Bool
+sameSet xs ys = allIn xs ys && allIn ys xs
 
 -- how often a stands in the list
 abbrev pub howMany : ℕ → List ℕ → ℕ

@@ -1,0 +1,4 @@
+pub mod ReservoirShares
+pub mod Shares
+pub mod Turns
+pub mod Cases

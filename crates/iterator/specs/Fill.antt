@@ -1,0 +1,68 @@
+-- What a fill leaves behind: the answer, the words read, the generator and the buffer.
+use mathlib.Core.Path.{_≡_}
+use mathlib.Core.Bool.{cond}
+use mathlib.Core.List.{List, [], _∷_}
+use Prim.Native.Nat.{ℕ, _-_, _^_, min}
+use lib.Dec.{ltb}
+use lib.ListN.{length, drop}
+use Rattle.refusal.specs.Number.{number}
+use Rattle.refusal.specs.Answer.{Answer}
+use Rattle.refusal.specs.declared.Refusal.{Refusal}
+use Rattle.refusal.specs.declared.Refusal.the-variants.{TooLong, ZeroState}
+use Rattle.xoshiro256plusplus.specs.Generator.{zeroState}
+use Rattle.xoshiro256plusplus.specs.declared.Xoshiro256PlusPlus.{Xoshiro256PlusPlus}
+use Rattle.uniform_int.specs.Draws.{draws}
+use Rattle.iterator.specs.Reservoir.{fillFront, fillFrom, fillOf, fillBounds}
+use Rattle.iterator.specs.declared.reservoir.Reading.{Reading}
+use Rattle.iterator.specs.declared.Outcome.{Outcome}
+use Rattle.iterator.specs.declared.Outcome.the-variants.{Done, Refused}
+use Rattle.iterator.specs.declared.Filled.{Filled}
+
+-- ---- what the functions over the first items, and over those past the buffer's length, promise
+
+pub record FrontFilled (items before after : List ℕ) (r : ℕ) : Type 0 where
+  pub count : r ≡ min (length items) (length before)
+  pub buf : after ≡ fillFront before items
+
+pub record Replaced (items : List ℕ) (g : Xoshiro256PlusPlus) (before after : List ℕ) (r : Reading) : Type 0 where
+  pub buf : after ≡ fillFrom before (drop (length before) items) (draws (fillBounds (length before) (length items)) g .values)
+  pub words : r .words ≡ draws (fillBounds (length before) (length items)) g .words
+  pub rng : r .rng ≡ draws (fillBounds (length before) (length items)) g .rng
+
+-- ---- the call
+
+-- the number and the values of each case of the answer: the value is the count of slots filled
+abbrev pub answerOf : Outcome → ℕ → Answer
+answerOf Done count = record { number = 0; values = count ∷ [] }
+answerOf (Refused r) count = record { number = number r; values = count ∷ [] }
+
+-- all that can be seen after the call
+pub record Filling : Type 0 where
+  pub answer : Answer
+  pub words : ℕ
+  pub rng : Xoshiro256PlusPlus
+  pub buf : List ℕ
+
+abbrev pub ended : Filled → List ℕ → Filling
+ended r buf = record { answer = answerOf (r .outcome) (r .count); words = r .words; rng = r .rng; buf = buf }
+
+-- a refusal reads no word and changes nothing
+unfoldable pub refuses : Refusal → Xoshiro256PlusPlus → List ℕ → Filling
+refuses r g buf = record { answer = answerOf (Refused r) 0; words = 0; rng = g; buf = buf }
+
+-- the reservoir with draws made one after another; where the items are fewer than the slots, there is no draw
+unfoldable pub fills : Xoshiro256PlusPlus → (items buf : List ℕ) → Filling
+fills g items buf =
+    record {
+      answer = answerOf Done (min (length items) (length buf));
+      words = draws (fillBounds (length buf) (length items)) g .words;
+      rng = draws (fillBounds (length buf) (length items)) g .rng;
+      buf = fillOf buf items (draws (fillBounds (length buf) (length items)) g .values);
+    }
+
+-- the first refusal that applies, else the fill; a buffer of any length is good
+unfoldable pub sampleFillOf : Xoshiro256PlusPlus → (items buf : List ℕ) → Filling
+sampleFillOf g items buf =
+    cond (zeroState g) (refuses ZeroState g buf)
+    (cond (ltb (2 ^ 32 - 2) (length items)) (refuses TooLong g buf)
+    (fills g items buf))

@@ -1,0 +1,71 @@
+// Samples from a row of items that is read once, as in rand's `iterator.rs`.
+ghost use mathlib.Core.Path.{_≡_};
+ghost use Prim.Native.Nat.{_-_, _^_, _≤_};
+ghost use lib.ListN.{length};
+ghost use Rattle.iterator.specs.Fill.{ended, fills, sampleFillOf};
+use refusal::Refusal;
+use reservoir::fill_front;
+use reservoir::replace_slots;
+use xoshiro256plusplus::Xoshiro256PlusPlus;
+
+mod reservoir;
+
+// How a fill ends. The definition `answerOf` gives the table's number and the values of each case.
+pub enum Outcome {
+    Done,
+    Refused(Refusal),
+}
+
+// The outcome, the count of slots filled, the words read, and the generator after them.
+pub struct Filled {
+    pub outcome: Outcome,
+    pub count: u64,
+    pub words: u64,
+    pub rng: Xoshiro256PlusPlus,
+}
+
+// A refusal: nothing is read and no slot filled.
+fn refused(why: Refusal, rng: Xoshiro256PlusPlus) -> Filled
+    ensures { λ r. ⌜ r ≡ record { outcome = Outcome.Refused why; count = 0; words = 0; rng = rng } ⌝ }
+{
+    Filled {
+        outcome: Outcome::Refused(why),
+        count: 0,
+        words: 0,
+        rng: rng,
+    }
+}
+
+// The fill of a good call: the first items, and then the draws.
+fn fill(rng: Xoshiro256PlusPlus, items: &[u32], buf: &mut [u32]) -> Filled
+    requires { ⌜ length (now items) ≤ 2 ^ 32 - 2 ⌝ }
+    ensures { λ r. ⌜ ended r (now (buf .exit)) ≡ fills rng (now (items .entry)) (now (buf .entry)) ⌝ }
+{
+    let count = fill_front(items, buf) as u64;
+    let reading = replace_slots(rng, items, buf);
+    let after = reading.rng;
+    Filled {
+        outcome: Outcome::Done,
+        count: count,
+        words: reading.words,
+        rng: after,
+    }
+}
+
+// Fills the buffer with a sample of as many items as it has slots, and answers how many slots are filled: all of them, or as many as there are
+// items; slots past the items keep what they held. The definition is `sampleFillOf`. Each set of items has the same share of the lists of
+// draws (`ReservoirShares`); the order in the buffer is neither that of the items nor random. Declines a generator whose state is all zero (12)
+// and more than 2^32 - 2 items (10), and then reads no word and leaves the buffer as it was; a buffer of any length is good. Cost: one
+// copy for each slot, and a bounded draw for each item past the buffer's length, also where the buffer is empty. Fewer items than slots
+// read no word.
+pub fn sample_fill(rng: Xoshiro256PlusPlus, items: &[u32], buf: &mut [u32]) -> Filled
+    ensures { λ r. ⌜ ended r (now (buf .exit)) ≡ sampleFillOf rng (now (items .entry)) (now (buf .entry)) ⌝ }
+{
+    if rng.is_zero() {
+        return refused(Refusal::ZeroState, rng);
+    }
+    if items.len() > 0xffff_fffe {
+        return refused(Refusal::TooLong, rng);
+    }
+    fill(rng, items, buf)
+}

@@ -1,0 +1,61 @@
+// The reservoir: the first items fill the buffer, and each item past them replaces a slot that is drawn, or none.
+ghost use mathlib.Core.Path.{_≡_};
+ghost use Prim.Native.Nat.{_-_, _^_, _≤_, min};
+ghost use lib.ListN.{length};
+ghost use Rattle.iterator.specs.Fill.{FrontFilled, Replaced};
+use uniform_int::random_range;
+use xoshiro256plusplus::Xoshiro256PlusPlus;
+
+// The words read, and the generator after them.
+pub struct Reading {
+    pub words: u64,
+    pub rng: Xoshiro256PlusPlus,
+}
+
+// The smaller of the two.
+fn smaller(a: usize, b: usize) -> usize
+    ensures { λ r. ⌜ r ≡ min a b ⌝ }
+{
+    if a < b {
+        return a;
+    }
+    b
+}
+
+// Copies the first items to the front of the buffer until one of the two ends, and answers how many.
+pub(crate) fn fill_front(items: &[u32], buf: &mut [u32]) -> usize
+    ensures { λ r. ⌜ FrontFilled (now (items .entry)) (now (buf .entry)) (now (buf .exit)) r ⌝ }
+{
+    let count = smaller(items.len(), buf.len());
+    for i in 0..count {
+        buf[i] = items[i];
+    }
+    count
+}
+
+// For each item from the place a on, a the buffer's length: one bounded draw, and the item replaces the slot drawn if it is below a. Where there
+// are no such items nothing is read.
+pub(crate) fn replace_slots(rng: Xoshiro256PlusPlus, items: &[u32], buf: &mut [u32]) -> Reading
+    requires { ⌜ length (now items) ≤ 2 ^ 32 - 2 ⌝ }
+    ensures { λ r. ⌜ Replaced (now (items .entry)) rng (now (buf .entry)) (now (buf .exit)) r ⌝ }
+{
+    let mut state = rng;
+    let mut words: u64 = 0;
+    let slots = buf.len();
+    let end = items.len();
+    for p in slots..end {
+        let range = (p + 1) as u32;
+        let d = random_range(state, range);
+        let next = d.rng;
+        state = next;
+        words += d.words;
+        let k = d.value as usize;
+        if k < slots {
+            buf[k] = items[p];
+        }
+    }
+    Reading {
+        words: words,
+        rng: state,
+    }
+}
