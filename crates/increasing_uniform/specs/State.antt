@@ -17,6 +17,7 @@ startOf g n = record { rng = g; n = n; chunk = 0; «chunk_remaining» = firstLef
 unfoldable pub refill : IncreasingUniform → Drawn
 refill s = bounded (factors (suc (s .n)) (suc (moreOf (suc (s .n))))) (s .rng)
 
+-- the state with the chunk so drawn, which holds an index for each factor
 unfoldable pub refilledOf : IncreasingUniform → IncreasingUniform
 refilledOf s =
     record {

@@ -139,8 +139,9 @@ impl IncreasingUniform {
         }
     }
 
-    // The index for m = n + 1, and the state for the next one. The definition is `nextOf`; w steps from the start hand out `indicesOf`, and
-    // each list of indices has the same share of the lists of chunk values (`IncreasingShares`). At most two words are read.
+    // The index for m = n + 1, and the state for the next one. The definition is `nextOf`. Steps from the start hand out `indicesOf` the chunks
+    // drawn (`coming-start`, `coming-next` of `Steps`), and each list of indices has the same share of the lists of chunk values
+    // (`IncreasingShares`). Reads nothing while the chunk lasts, and else the words of one bounded draw.
     pub fn next_index(self) -> Index
         requires { ⌜ (self .n < 2 ^ 32 - 2) × (self .words ≤ 2 * self .n) ⌝ }
         ensures { λ r. ⌜ r ≡ nextOf self ⌝ }
