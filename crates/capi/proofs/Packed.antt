@@ -1,24 +1,34 @@
 -- What is written to the caller's memory is what the call's definition leaves.
 -- Assumes nothing.
-use mathlib.Core.Path.{_≡_, refl}
+use mathlib.Core.Path.{_≡_}
 use mathlib.Core.List.{List, [], _∷_}
 use Prim.Native.Nat.{ℕ}
-use Rattle.index.specs.Sample.{answerOf, ended}
+use Rattle.refusal.specs.Answer.{answerOf}
+use Rattle.refusal.proofs.Outcomes.{number-of, values-of}
+use Rattle.refusal.specs.declared.Outcome.{Outcome}
+use Rattle.index.specs.Sample as Sample
 use Rattle.index.specs.declared.IndexSample.{IndexSample}
-use Rattle.index.specs.declared.Outcome.{Outcome}
-use Rattle.index.specs.declared.Outcome.the-variants.{Drawn, Refused}
+use Rattle.slice.specs.Shuffled as Shuffle
+use Rattle.slice.specs.declared.Shuffled.{Shuffled}
+use Rattle.iterator.specs.Fill as Fill
+use Rattle.iterator.specs.declared.Filled.{Filled}
 use Rattle.capi.specs.State.{words}
-use Rattle.capi.specs.Sampling.{Sampled, sampled}
+use Rattle.capi.specs.Sampling.{sampled}
+use Rattle.capi.specs.Shuffling.{shuffled}
+use Rattle.capi.specs.Filling.{filled}
 
-number-of : (o : Outcome) (n : ℕ) → answerOf o n .number ≡ answerOf o 0 .number
-number-of Drawn n = refl
-number-of (Refused r) n = refl
+module _ (number : ℕ) (state out : List ℕ) where
+  pub packed-sample : (s : IndexSample) (indices scratch : List ℕ) → number ≡ answerOf (s .outcome) 0 .number → state ≡ words (s .rng) → out ≡ s .words ∷ s .count ∷ []
+      → record { number = number; state = state; out = out; indices = indices; scratch = scratch } ≡ sampled (Sample.ended s indices scratch)
+  unfolding sampled
+  packed-sample s indices scratch e f g = rw (e, f, g, number-of (s .outcome) (s .count), values-of (s .outcome) (s .count))
 
-values-of : (o : Outcome) (n : ℕ) → answerOf o n .values ≡ n ∷ []
-values-of Drawn n = refl
-values-of (Refused r) n = refl
+  pub packed-shuffle : (s : Shuffled) (items : List ℕ) → number ≡ answerOf (s .outcome) 0 .number → state ≡ words (s .rng) → out ≡ s .words ∷ s .n ∷ []
+      → record { number = number; state = state; out = out; items = items } ≡ shuffled (Shuffle.ended s items)
+  unfolding shuffled
+  packed-shuffle s items e f g = rw (e, f, g, number-of (s .outcome) (s .n), values-of (s .outcome) (s .n))
 
-pub packed : (s : IndexSample) (number : ℕ) (state indices scratch : List ℕ) → number ≡ answerOf (s .outcome) 0 .number → state ≡ words (s .rng)
-    → record { number = number; state = state; out = s .words ∷ s .count ∷ []; indices = indices; scratch = scratch } ≡ sampled (ended s indices scratch)
-unfolding sampled
-packed s number state indices scratch e f = rw (e, f, number-of (s .outcome) (s .count), values-of (s .outcome) (s .count))
+  pub packed-fill : (s : Filled) (buf : List ℕ) → number ≡ answerOf (s .outcome) 0 .number → state ≡ words (s .rng) → out ≡ s .words ∷ s .count ∷ []
+      → record { number = number; state = state; out = out; buf = buf } ≡ filled (Fill.ended s buf)
+  unfolding filled
+  packed-fill s buf e f g = rw (e, f, g, number-of (s .outcome) (s .count), values-of (s .outcome) (s .count))

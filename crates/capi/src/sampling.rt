@@ -2,21 +2,10 @@
 ghost use mathlib.Core.Path.{_≡_};
 ghost use Rattle.capi.specs.Sampling.{sampled};
 ghost use Rattle.capi.specs.State.{generator};
-ghost use Rattle.index.specs.Sample.{answerOf, sampleOf};
+ghost use Rattle.index.specs.Sample.{sampleOf};
 use super::state::load;
-use super::state::store;
-use index::Outcome;
+use super::state::report;
 use index::sample;
-
-// What C is told of an outcome: 0, or the table's number.
-fn number(outcome: Outcome) -> u32
-    ensures { λ r. ⌜ r ≡ answerOf outcome 0 .number ⌝ }
-{
-    match outcome {
-        Outcome::Drawn => 0,
-        Outcome::Refused(why) => why.number(),
-    }
-}
 
 // `sample` for C: the definition `sampleOf`, written out as `sampled` says.
 #[no_mangle]
@@ -33,8 +22,7 @@ pub extern "C" fn gapyndura_sample(
 {
     let s = sample(load(*state), length, amount, budget, indices, scratch);
     let rng = s.rng;
-    store(rng, state);
-    *out = [s.words, s.count];
+    report(rng, s.words, s.count, state, out);
     let outcome = s.outcome;
-    number(outcome)
+    outcome.number()
 }

@@ -1,22 +1,42 @@
 // Shuffles of a slice.
 ghost use mathlib.Core.Path.{_≡_};
 ghost use Rattle.capi.specs.Shuffling.{shuffled};
-ghost use Rattle.capi.specs.State.{words, generator};
-ghost use Rattle.capi.proofs.Packed.{Packed};
-ghost use Rattle.slice.specs.Shuffled.{answerOf, partialShuffleOf, wholeShuffleOf};
+ghost use Rattle.capi.specs.State.{generator};
+ghost use Rattle.slice.specs.Shuffled.{partialShuffleOf, wholeShuffleOf};
 use super::state::load;
-use super::state::store;
-use slice::Outcome;
-use slice::Shuffled;
+use super::state::report;
 use slice::partial_shuffle;
 use slice::shuffle;
 
-// What C is told of an outcome: 0, or the table's number.
-fn number(outcome: Outcome) -> u32
-    ensures { λ r. ⌜ r ≡ answerOf outcome 0 .number ⌝ }
+// `partial_shuffle` for C: the definition `partialShuffleOf`, written out as `shuffled` says.
+#[no_mangle]
+pub extern "C" fn gapyndura_partial_shuffle(
+    state: &mut [u64; 4],
+    items: &mut [u32],
+    amount: u64,
+    out: &mut [u64; 2],
+) -> u32
+    ensures { λ r. ⌜ record { number = r; state = now (state .exit); out = now (out .exit); items = now (items .exit) } ≡ shuffled (partialShuffleOf amount (generator (now (state .entry))) (now (items .entry))) ⌝ }
 {
-    match outcome {
-        Outcome::Done => 0,
-        Outcome::Refused(why) => why.number(),
-    }
+    let s = partial_shuffle(load(*state), items, amount);
+    let rng = s.rng;
+    report(rng, s.words, s.n, state, out);
+    let outcome = s.outcome;
+    outcome.number()
+}
+
+// `shuffle` for C: the definition `wholeShuffleOf`, written out as `shuffled` says.
+#[no_mangle]
+pub extern "C" fn gapyndura_shuffle(
+    state: &mut [u64; 4],
+    items: &mut [u32],
+    out: &mut [u64; 2],
+) -> u32
+    ensures { λ r. ⌜ record { number = r; state = now (state .exit); out = now (out .exit); items = now (items .exit) } ≡ shuffled (wholeShuffleOf (generator (now (state .entry))) (now (items .entry))) ⌝ }
+{
+    let s = shuffle(load(*state), items);
+    let rng = s.rng;
+    report(rng, s.words, s.n, state, out);
+    let outcome = s.outcome;
+    outcome.number()
 }

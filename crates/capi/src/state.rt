@@ -1,4 +1,5 @@
 // A generator as C sees it: an array of its four words, s0 first.
+ghost use mathlib.Core.List.{[], _∷_};
 ghost use mathlib.Core.Path.{_≡_};
 ghost use Rattle.capi.specs.State.{words, generator};
 use xoshiro256plusplus::Xoshiro256PlusPlus;
@@ -20,4 +21,18 @@ pub(crate) fn load(state: [u64; 4]) -> Xoshiro256PlusPlus
         s2: state[2],
         s3: state[3],
     }
+}
+
+// Writes what every call that draws writes: the generator afterwards, and in `out` the words read and the answer's value.
+pub(crate) fn report(
+    rng: Xoshiro256PlusPlus,
+    read: u64,
+    value: u64,
+    state: &mut [u64; 4],
+    out: &mut [u64; 2],
+)
+    ensures { λ _. ⌜ (now (state .exit) ≡ words rng) × (now (out .exit) ≡ read ∷ value ∷ []) ⌝ }
+{
+    store(rng, state);
+    *out = [read, value];
 }

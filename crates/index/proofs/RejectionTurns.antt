@@ -19,8 +19,8 @@ use Rattle.uniform_int.specs.declared.Sampled.{Sampled}
 use Rattle.index.specs.Rejection.{Found, foundFrom, foundOf}
 use Rattle.index.specs.Sample.{Sampling, ended, byRejection}
 use Rattle.index.specs.declared.IndexSample.{IndexSample}
-use Rattle.index.specs.declared.Outcome.{Outcome}
-use Rattle.index.specs.declared.Outcome.the-variants.{Drawn, Refused}
+use Rattle.refusal.specs.declared.Outcome.{Outcome}
+use Rattle.refusal.specs.declared.Outcome.the-variants.{Done, Refused}
 use Rattle.refusal.specs.declared.Refusal.the-variants.{BudgetExhausted}
 
 -- the rejecting draw below r, as the loop makes it
@@ -103,14 +103,14 @@ module _ (r amount budget : ℕ) (g₀ : Xoshiro256PlusPlus) (l₀ : List ℕ) (
   module _ (g : Xoshiro256PlusPlus) (l : List ℕ) (words count : ℕ) (s : Turn r amount budget g₀ l₀ g l words count) where
     -- what was found stands at the front, and the rest of the slice as it was
     report : (b : Bool) (k : ℕ) (h : Xoshiro256PlusPlus) → foundOf r amount budget g₀ ≡ record { indices = take count l; all = b; words = k; rng = h }
-        → byRejection (foundOf r amount budget g₀) l₀ [] ≡ ended (record { outcome = cond b Drawn (Refused BudgetExhausted); count = count; words = k; rng = h }) l []
+        → byRejection (foundOf r amount budget g₀) l₀ [] ≡ ended (record { outcome = cond b Done (Refused BudgetExhausted); count = count; words = k; rng = h }) l []
     unfolding byRejection
     report b k h e =
         let size : length (take count l) ≡ count = length-take-le count l (omega (arith, s .upto, s .long)) in
         let whole : take count l ++ drop count l₀ ≡ l = ap (λ (x : List ℕ). take count l ++ x) (sym (s .rest)) ∙ take-append-drop count l in
         rw (e, size, whole)
 
-    pub finish : amount ≤ count → byRejection (foundOf r amount budget g₀) l₀ [] ≡ ended (record { outcome = Drawn; count = count; words = words; rng = g }) l []
+    pub finish : amount ≤ count → byRejection (foundOf r amount budget g₀) l₀ [] ≡ ended (record { outcome = Done; count = count; words = words; rng = g }) l []
     unfolding foundFrom
     finish h = let z : amount - count ≡ 0 = omega arith in report true words g (sym (s .goes) ∙ rw z)
 

@@ -5,8 +5,7 @@ use mathlib.Core.List.{List, [], _∷_, _++_}
 use Prim.Native.Nat.{ℕ, _-_, _^_}
 use lib.Dec.{ltb}
 use lib.ListN.{length, take, drop}
-use Rattle.refusal.specs.Number.{number}
-use Rattle.refusal.specs.Answer.{Answer}
+use Rattle.refusal.specs.Answer.{Answer, answerOf}
 use Rattle.refusal.specs.declared.Refusal.{Refusal}
 use Rattle.refusal.specs.declared.Refusal.the-variants.{AmountExceedsLength, SliceTooShort, ScratchTooShort, TooLong, ZeroState, BudgetExhausted}
 use Rattle.xoshiro256plusplus.specs.Generator.{zeroState}
@@ -19,8 +18,8 @@ use Rattle.index.specs.Floyd.{floydOf, floydBounds}
 use Rattle.index.specs.InPlace.{swapsFrom, arranged, falling}
 use Rattle.index.specs.Rejection.{Found, foundOf}
 use Rattle.index.specs.declared.reading.Reading.{Reading}
-use Rattle.index.specs.declared.Outcome.{Outcome}
-use Rattle.index.specs.declared.Outcome.the-variants.{Drawn, Refused}
+use Rattle.refusal.specs.declared.Outcome.{Outcome}
+use Rattle.refusal.specs.declared.Outcome.the-variants.{Done, Refused}
 use Rattle.index.specs.declared.IndexSample.{IndexSample}
 
 -- ---- what the methods' own functions promise
@@ -43,12 +42,7 @@ pub record InPlaceSample (n amount : ℕ) (g : Xoshiro256PlusPlus) (before after
 
 -- ---- the call
 
--- the number and the values of each case of the answer: the value is the count of indices written
-abbrev pub answerOf : Outcome → ℕ → Answer
-answerOf Drawn count = record { number = 0; values = count ∷ [] }
-answerOf (Refused r) count = record { number = number r; values = count ∷ [] }
-
--- all that can be seen after the call
+-- all that can be seen after the call; the answer's value is the count of indices written
 pub record Sampling : Type 0 where
   pub answer : Answer
   pub words : ℕ
@@ -67,7 +61,7 @@ refuses r g indices scratch = record { answer = answerOf (Refused r) 0; words = 
 unfoldable pub byFloyd : (n amount : ℕ) → Xoshiro256PlusPlus → List ℕ → List ℕ → Sampling
 byFloyd n amount g indices scratch =
     record {
-      answer = answerOf Drawn amount;
+      answer = answerOf Done amount;
       words = draws (floydBounds n amount) g .words;
       rng = draws (floydBounds n amount) g .rng;
       indices = floydOf n amount (draws (floydBounds n amount) g .values) ++ drop amount indices;
@@ -78,7 +72,7 @@ byFloyd n amount g indices scratch =
 unfoldable pub byInPlace : (n amount : ℕ) → Xoshiro256PlusPlus → List ℕ → List ℕ → Sampling
 byInPlace n amount g indices scratch =
     record {
-      answer = answerOf Drawn amount;
+      answer = answerOf Done amount;
       words = draws (falling n amount) g .words;
       rng = draws (falling n amount) g .rng;
       indices = take amount (arranged n (draws (falling n amount) g .values)) ++ drop amount indices;
@@ -89,7 +83,7 @@ byInPlace n amount g indices scratch =
 unfoldable pub byRejection : Found → List ℕ → List ℕ → Sampling
 byRejection f indices scratch =
     record {
-      answer = answerOf (cond (f .all) Drawn (Refused BudgetExhausted)) (length (f .indices));
+      answer = answerOf (cond (f .all) Done (Refused BudgetExhausted)) (length (f .indices));
       words = f .words;
       rng = f .rng;
       indices = f .indices ++ drop (length (f .indices)) indices;

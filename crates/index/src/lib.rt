@@ -6,6 +6,7 @@ use crossover::choose_method;
 use floyd::sample_floyd;
 use in_place::sample_inplace;
 use reading::Reading;
+use refusal::Outcome;
 use refusal::Refusal;
 use rejection::sample_rejection;
 use xoshiro256plusplus::Xoshiro256PlusPlus;
@@ -15,12 +16,6 @@ mod in_place;
 mod reading;
 mod rejection;
 mod seen;
-
-// How a call of `sample` ends. The definition `answerOf` gives the table's number and the values of each case.
-pub enum Outcome {
-    Drawn,
-    Refused(Refusal),
-}
 
 // The outcome, the count of indices written, the words read, and the generator after them.
 pub struct IndexSample {
@@ -44,11 +39,11 @@ fn refused(why: Refusal, rng: Xoshiro256PlusPlus) -> IndexSample
 
 // All `amount` indices are drawn.
 fn drawn(amount: u64, reading: Reading) -> IndexSample
-    ensures { λ r. ⌜ r ≡ record { outcome = Outcome.Drawn; count = amount; words = reading .words; rng = reading .rng } ⌝ }
+    ensures { λ r. ⌜ r ≡ record { outcome = Outcome.Done; count = amount; words = reading .words; rng = reading .rng } ⌝ }
 {
     let rng = reading.rng;
     IndexSample {
-        outcome: Outcome::Drawn,
+        outcome: Outcome::Done,
         count: amount,
         words: reading.words,
         rng: rng,

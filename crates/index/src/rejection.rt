@@ -7,8 +7,8 @@ ghost use Rattle.index.specs.Rejection.{foundOf};
 ghost use Rattle.index.specs.Sample.{ended, byRejection};
 ghost use Rattle.index.specs.Seen.{Asked};
 use super::IndexSample;
-use super::Outcome;
 use super::seen::is_new;
+use refusal::Outcome;
 use refusal::Refusal;
 use uniform_int::Draw;
 use uniform_int::UniformInt;
@@ -51,7 +51,7 @@ fn find_all(
         }
     }
     IndexSample {
-        outcome: Outcome::Drawn,
+        outcome: Outcome::Done,
         count: count as u64,
         words: words,
         rng: state,

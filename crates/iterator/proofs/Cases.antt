@@ -10,8 +10,9 @@ use Rattle.refusal.specs.declared.Refusal.the-variants.{TooLong, ZeroState}
 use Rattle.xoshiro256plusplus.specs.Generator.{zeroState}
 use Rattle.xoshiro256plusplus.specs.declared.Xoshiro256PlusPlus.{Xoshiro256PlusPlus}
 use Rattle.iterator.specs.Reservoir.{fillFront, fillOf}
-use Rattle.iterator.specs.Fill.{FrontFilled, Replaced, answerOf, Filling, refuses, fills, sampleFillOf}
-use Rattle.iterator.specs.declared.Outcome.the-variants.{Done}
+use Rattle.iterator.specs.Fill.{FrontFilled, Replaced, Filling, refuses, fills, sampleFillOf}
+use Rattle.refusal.specs.declared.Outcome.the-variants.{Done}
+use Rattle.refusal.specs.Answer.{answerOf}
 use Rattle.iterator.specs.declared.reservoir.Reading.{Reading}
 use Rattle.iterator.proofs.Turns.{front-length}
 

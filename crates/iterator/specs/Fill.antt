@@ -5,8 +5,7 @@ use mathlib.Core.List.{List, [], _∷_}
 use Prim.Native.Nat.{ℕ, _-_, _^_, min}
 use lib.Dec.{ltb}
 use lib.ListN.{length, drop}
-use Rattle.refusal.specs.Number.{number}
-use Rattle.refusal.specs.Answer.{Answer}
+use Rattle.refusal.specs.Answer.{Answer, answerOf}
 use Rattle.refusal.specs.declared.Refusal.{Refusal}
 use Rattle.refusal.specs.declared.Refusal.the-variants.{TooLong, ZeroState}
 use Rattle.xoshiro256plusplus.specs.Generator.{zeroState}
@@ -14,8 +13,8 @@ use Rattle.xoshiro256plusplus.specs.declared.Xoshiro256PlusPlus.{Xoshiro256Plus
 use Rattle.uniform_int.specs.Draws.{draws}
 use Rattle.iterator.specs.Reservoir.{fillFront, fillFrom, fillOf, fillBounds}
 use Rattle.iterator.specs.declared.reservoir.Reading.{Reading}
-use Rattle.iterator.specs.declared.Outcome.{Outcome}
-use Rattle.iterator.specs.declared.Outcome.the-variants.{Done, Refused}
+use Rattle.refusal.specs.declared.Outcome.{Outcome}
+use Rattle.refusal.specs.declared.Outcome.the-variants.{Done, Refused}
 use Rattle.iterator.specs.declared.Filled.{Filled}
 
 -- ---- what the functions over the first items, and over those past the buffer's length, promise
@@ -31,12 +30,7 @@ pub record Replaced (items : List ℕ) (g : Xoshiro256PlusPlus) (before after : 
 
 -- ---- the call
 
--- the number and the values of each case of the answer: the value is the count of slots filled
-abbrev pub answerOf : Outcome → ℕ → Answer
-answerOf Done count = record { number = 0; values = count ∷ [] }
-answerOf (Refused r) count = record { number = number r; values = count ∷ [] }
-
--- all that can be seen after the call
+-- all that can be seen after the call; the answer's value is the count of slots filled
 pub record Filling : Type 0 where
   pub answer : Answer
   pub words : ℕ

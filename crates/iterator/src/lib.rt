@@ -3,18 +3,13 @@ ghost use mathlib.Core.Path.{_≡_};
 ghost use Prim.Native.Nat.{_-_, _^_, _≤_};
 ghost use lib.ListN.{length};
 ghost use Rattle.iterator.specs.Fill.{ended, fills, sampleFillOf};
+use refusal::Outcome;
 use refusal::Refusal;
 use reservoir::fill_front;
 use reservoir::replace_slots;
 use xoshiro256plusplus::Xoshiro256PlusPlus;
 
 mod reservoir;
-
-// How a fill ends. The definition `answerOf` gives the table's number and the values of each case.
-pub enum Outcome {
-    Done,
-    Refused(Refusal),
-}
 
 // The outcome, the count of slots filled, the words read, and the generator after them.
 pub struct Filled {

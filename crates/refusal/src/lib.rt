@@ -1,5 +1,6 @@
 // Why a call is declined. The rows of document 01's table, in its order; the comment at each has that table's word for it.
 ghost use mathlib.Core.Path.{_≡_};
+ghost use Rattle.refusal.specs.Answer.{answerOf};
 ghost use Rattle.refusal.specs.Number.{number};
 
 pub enum Refusal {
@@ -50,6 +51,24 @@ impl Refusal {
             Refusal::InvalidHints => 11,
             Refusal::ZeroState => 12,
             Refusal::BudgetExhausted => 13,
+        }
+    }
+}
+
+// How a public call ends. The definition `answerOf` gives the number and the value of each case.
+pub enum Outcome {
+    Done,
+    Refused(Refusal),
+}
+
+impl Outcome {
+    // What callers outside Rattle are told: 0, or the table's number.
+    pub fn number(self) -> u32
+        ensures { λ r. ⌜ r ≡ answerOf self 0 .number ⌝ }
+    {
+        match self {
+            Outcome::Done => 0,
+            Outcome::Refused(why) => why.number(),
         }
     }
 }

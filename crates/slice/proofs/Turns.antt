@@ -13,8 +13,9 @@ use Rattle.increasing_uniform.specs.State.{startOf, nextOf}
 use Rattle.increasing_uniform.specs.declared.IncreasingUniform.{IncreasingUniform}
 use Rattle.increasing_uniform.proofs.Steps.{Sound, start-sound, next-n, next-lt, next-sound, Coming, coming, coming-start, coming-none, coming-next}
 use Rattle.slice.specs.Shuffle.{shuffleFrom, shuffleOf, shuffleBounds}
-use Rattle.slice.specs.Shuffled.{answerOf, Shuffling, shuffledFrom}
-use Rattle.slice.specs.declared.Outcome.the-variants.{Done}
+use Rattle.slice.specs.Shuffled.{Shuffling, shuffledFrom}
+use Rattle.refusal.specs.declared.Outcome.the-variants.{Done}
+use Rattle.refusal.specs.Answer.{answerOf}
 
 -- the steps to come, from the place i of the items l on
 unfoldable pub left : (n : ℕ) → Coming → (i : ℕ) → List ℕ → Shuffling

@@ -4,24 +4,18 @@ use mathlib.Core.List.{List, [], _∷_}
 use Prim.Native.Nat.{ℕ, _-_, _^_}
 use lib.Dec.{ltb}
 use lib.ListN.{length}
-use Rattle.refusal.specs.Number.{number}
-use Rattle.refusal.specs.Answer.{Answer}
+use Rattle.refusal.specs.Answer.{Answer, answerOf}
 use Rattle.refusal.specs.declared.Refusal.{Refusal}
 use Rattle.refusal.specs.declared.Refusal.the-variants.{TooLong, ZeroState}
 use Rattle.xoshiro256plusplus.specs.Generator.{zeroState}
 use Rattle.xoshiro256plusplus.specs.declared.Xoshiro256PlusPlus.{Xoshiro256PlusPlus}
 use Rattle.uniform_int.specs.Draws.{draws}
 use Rattle.slice.specs.Shuffle.{shuffleOf, shuffleBounds}
-use Rattle.slice.specs.declared.Outcome.{Outcome}
-use Rattle.slice.specs.declared.Outcome.the-variants.{Done, Refused}
+use Rattle.refusal.specs.declared.Outcome.{Outcome}
+use Rattle.refusal.specs.declared.Outcome.the-variants.{Done, Refused}
 use Rattle.slice.specs.declared.Shuffled.{Shuffled}
 
--- the number and the values of each case of the answer: the value is n, where the tail starts
-abbrev pub answerOf : Outcome → ℕ → Answer
-answerOf Done n = record { number = 0; values = n ∷ [] }
-answerOf (Refused r) n = record { number = number r; values = n ∷ [] }
-
--- all that can be seen after the call
+-- all that can be seen after the call; the answer's value is n, where the tail starts
 pub record Shuffling : Type 0 where
   pub answer : Answer
   pub words : ℕ

@@ -6,14 +6,9 @@ ghost use Rattle.slice.specs.Parts.{Lent};
 ghost use Rattle.slice.specs.Shuffled.{ended, shuffledFrom, partialShuffleOf, wholeShuffleOf};
 use counting::swap;
 use increasing_uniform::IncreasingUniform;
+use refusal::Outcome;
 use refusal::Refusal;
 use xoshiro256plusplus::Xoshiro256PlusPlus;
-
-// How a shuffle ends. The definition `answerOf` gives the table's number and the values of each case.
-pub enum Outcome {
-    Done,
-    Refused(Refusal),
-}
 
 // The outcome, the place where the shuffled tail starts, the words read, and the generator after them.
 pub struct Shuffled {
