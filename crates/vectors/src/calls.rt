@@ -2,7 +2,9 @@
 ghost use Prim.Native.Nat.{_<_};
 use super::answers::put;
 use super::answers::put_state;
+use super::filling;
 use super::sampling;
+use super::shuffling;
 use super::text::Numbers;
 use super::text::name_end;
 use super::text::read_numbers;
@@ -138,6 +140,15 @@ pub fn make(line: &[u8]) {
     }
     if same(name, b"sample") {
         sampling::sample(n);
+    }
+    if same(name, b"partial_shuffle") {
+        shuffling::partially(n);
+    }
+    if same(name, b"shuffle") {
+        shuffling::wholly(n);
+    }
+    if same(name, b"sample_fill") {
+        filling::fill(n);
     }
     if same(name, b"uniform_int") {
         let reading = Reading::Rejecting(values[4], values[5]);

@@ -7,8 +7,10 @@ use text::line_end;
 
 mod answers;
 mod calls;
+mod filling;
 mod hash;
 mod sampling;
+mod shuffling;
 mod slices;
 mod text;
 

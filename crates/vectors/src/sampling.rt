@@ -2,19 +2,11 @@
 use super::answers::put;
 use super::answers::put_state;
 use super::calls::generator;
+use super::hash::hash;
 use super::slices::at_most;
 use super::slices::entries;
 use super::slices::put_front;
-use super::slices::put_hash;
 use super::text::Numbers;
-use index::Outcome;
-
-fn put_outcome(outcome: Outcome) {
-    match outcome {
-        Outcome::Drawn => put(0),
-        Outcome::Refused(why) => put(why.number() as u64),
-    }
-}
 
 // Makes the call, and writes the number, the count, the words, the front of the indices, the hashes of both slices and the state.
 fn sample_into(n: Numbers, indices: &mut [u32], scratch: &mut [u32]) {
@@ -28,12 +20,12 @@ fn sample_into(n: Numbers, indices: &mut [u32], scratch: &mut [u32]) {
         scratch,
     );
     let outcome = s.outcome;
-    put_outcome(outcome);
+    put(outcome.number() as u64);
     put(s.count);
     put(s.words);
     put_front(indices);
-    put_hash(indices);
-    put_hash(scratch);
+    put(hash(indices));
+    put(hash(scratch));
     put_state(s.rng);
 }
 

@@ -2,9 +2,7 @@
 ghost use mathlib.Core.Path.{_≡_};
 ghost use lib.ListN.{length};
 ghost use Rattle.io.specs.Counts.{Counts};
-use super::answers::put;
 use super::answers::put_entry;
-use super::hash::hash;
 
 // Room for a slice. Only its length is told, which lending it asks for.
 pub fn entries() -> [u32; 50176]
@@ -36,7 +34,16 @@ pub fn put_front(items: &[u32]) {
     }
 }
 
-// The hash of a whole slice.
-pub fn put_hash(items: &[u32]) {
-    put(hash(items));
+// Puts 0, 1, .. into a slice.
+pub fn count_up(items: &mut [u32]) {
+    let mut x: u32 = 0;
+    let mut i = 0;
+    while i < items.len() {
+        items[i] = x;
+        if x >= 0xffff_ffff {
+            return;
+        }
+        x += 1;
+        i += 1;
+    }
 }

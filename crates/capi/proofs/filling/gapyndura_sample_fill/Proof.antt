@@ -1,36 +1,32 @@
+-- `gapyndura_sample_fill` meets its contract. Assumes nothing.
+use mathlib.Core.Path.{ap, _∙_}
+use Rattle.capi.specs.Filling.{filled}
+use Rattle.capi.proofs.Packed.{packed-fill}
 use borrow.Author.Needs.{needs}
 use Rattle.capi.proofs.filling.gapyndura_sample_fill.Statement.{statement}
 use Rattle.capi.proofs.filling.gapyndura_sample_fill.Tie as tie
-use Rattle.capi.proofs.filling.gapyndura_sample_fill.Reads as reads
-use Rattle.capi.proofs.filling.gapyndura_sample_fill.Lts as lts
-use Rattle.capi.proofs.state.load.Reads as load-reads
-use Rattle.capi.proofs.state.report.Reads as report-reads
-use Rattle.iterator.proofs.sample_fill.Reads as sample-fill-reads
-use Rattle.refusal.proofs.Outcome.number.Reads as number-reads
 
--- src/filling.rt:20:25
 load-requires : tie.Need-load-requires
 load-requires c κs = search needs
 
--- src/filling.rt:20:9
 sample-fill-requires : tie.Need-sample-fill-requires
 sample-fill-requires c κs = search needs
 
--- src/filling.rt:22:5
 report-requires : tie.Need-report-requires
 report-requires c κs = search needs
 
--- src/filling.rt:24:5
 number-requires : tie.Need-number-requires
 number-requires c κs = search needs
 
--- src/filling.rt:11:1
 same-length : tie.Need-same-length
 same-length c = search needs
 
--- src/filling.rt:11:1
 returns : tie.Need-returns
-returns c = ?
+returns c =
+    let s = c .before .before .before .before .before .before .before .sample-fill in
+    let done = rw (c .before .before .before .before .before .before .before .before .before .load .ensures) at (s .ensures) in
+    let told = c .before .report .ensures in
+    packed-fill _ _ _ (s .result) _ (c .number .ensures) (told .0) (told .1) ∙ ap filled done
 
 pub gapyndura-sample-fill-spec : {M : Type 1} → statement M
 gapyndura-sample-fill-spec =

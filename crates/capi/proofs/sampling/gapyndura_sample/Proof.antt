@@ -1,40 +1,35 @@
+-- `gapyndura_sample` meets its contract. Assumes nothing.
+use mathlib.Core.Path.{ap, _∙_}
+use Rattle.capi.specs.Sampling.{sampled}
+use Rattle.capi.proofs.Packed.{packed-sample}
 use borrow.Author.Needs.{needs}
 use Rattle.capi.proofs.sampling.gapyndura_sample.Statement.{statement}
 use Rattle.capi.proofs.sampling.gapyndura_sample.Tie as tie
-use Rattle.capi.proofs.sampling.gapyndura_sample.Reads as reads
-use Rattle.capi.proofs.sampling.gapyndura_sample.Lts as lts
-use Rattle.capi.proofs.state.load.Reads as load-reads
-use Rattle.capi.proofs.state.report.Reads as report-reads
-use Rattle.index.proofs.sample.Reads as sample-reads
-use Rattle.refusal.proofs.Outcome.number.Reads as number-reads
 
--- src/sampling.rt:23:20
 load-requires : tie.Need-load-requires
 load-requires c κs = search needs
 
--- src/sampling.rt:23:9
 sample-requires : tie.Need-sample-requires
 sample-requires c κs = search needs
 
--- src/sampling.rt:25:5
 report-requires : tie.Need-report-requires
 report-requires c κs = search needs
 
--- src/sampling.rt:27:5
 number-requires : tie.Need-number-requires
 number-requires c κs = search needs
 
--- src/sampling.rt:11:1
 same-length : tie.Need-same-length
 same-length c = search needs
 
--- src/sampling.rt:11:1
 same-length-2 : tie.Need-same-length-2
 same-length-2 c = search needs
 
--- src/sampling.rt:11:1
 returns : tie.Need-returns
-returns c = ?
+returns c =
+    let s = c .before .before .before .before .before .before .before .before .before .sample in
+    let done = rw (c .before .before .before .before .before .before .before .before .before .before .before .before .load .ensures) at (s .ensures) in
+    let told = c .before .report .ensures in
+    packed-sample _ _ _ (s .result) _ _ (c .number .ensures) (told .0) (told .1) ∙ ap sampled done
 
 pub gapyndura-sample-spec : {M : Type 1} → statement M
 gapyndura-sample-spec =

@@ -1,36 +1,32 @@
+-- `gapyndura_partial_shuffle` meets its contract. Assumes nothing.
+use mathlib.Core.Path.{ap, _∙_}
+use Rattle.capi.specs.Shuffling.{shuffled}
+use Rattle.capi.proofs.Packed.{packed-shuffle}
 use borrow.Author.Needs.{needs}
 use Rattle.capi.proofs.shuffling.gapyndura_partial_shuffle.Statement.{statement}
 use Rattle.capi.proofs.shuffling.gapyndura_partial_shuffle.Tie as tie
-use Rattle.capi.proofs.shuffling.gapyndura_partial_shuffle.Reads as reads
-use Rattle.capi.proofs.shuffling.gapyndura_partial_shuffle.Lts as lts
-use Rattle.capi.proofs.state.load.Reads as load-reads
-use Rattle.capi.proofs.state.report.Reads as report-reads
-use Rattle.refusal.proofs.Outcome.number.Reads as number-reads
-use Rattle.slice.proofs.partial_shuffle.Reads as partial-shuffle-reads
 
--- src/shuffling.rt:21:29
 load-requires : tie.Need-load-requires
 load-requires c κs = search needs
 
--- src/shuffling.rt:21:9
 partial-shuffle-requires : tie.Need-partial-shuffle-requires
 partial-shuffle-requires c κs = search needs
 
--- src/shuffling.rt:23:5
 report-requires : tie.Need-report-requires
 report-requires c κs = search needs
 
--- src/shuffling.rt:25:5
 number-requires : tie.Need-number-requires
 number-requires c κs = search needs
 
--- src/shuffling.rt:12:1
 same-length : tie.Need-same-length
 same-length c = search needs
 
--- src/shuffling.rt:12:1
 returns : tie.Need-returns
-returns c = ?
+returns c =
+    let s = c .before .before .before .before .before .before .before .partial-shuffle in
+    let done = rw (c .before .before .before .before .before .before .before .before .before .load .ensures) at (s .ensures) in
+    let told = c .before .report .ensures in
+    packed-shuffle _ _ _ (s .result) _ (c .number .ensures) (told .0) (told .1) ∙ ap shuffled done
 
 pub gapyndura-partial-shuffle-spec : {M : Type 1} → statement M
 gapyndura-partial-shuffle-spec =

@@ -1,0 +1,33 @@
+// The reservoir of the numbers 0, 1, ..
+use super::answers::put;
+use super::answers::put_state;
+use super::calls::generator;
+use super::hash::hash;
+use super::slices::at_most;
+use super::slices::count_up;
+use super::slices::entries;
+use super::slices::put_front;
+use super::text::Numbers;
+use iterator::sample_fill;
+
+// The number, the slots filled, the words, the front of the buffer, its hash and the state.
+fn fill_into(n: Numbers, items: &mut [u32], buf: &mut [u32]) {
+    count_up(items);
+    let s = sample_fill(generator(n), items, buf);
+    let outcome = s.outcome;
+    put(outcome.number() as u64);
+    put(s.count);
+    put(s.words);
+    put_front(buf);
+    put(hash(buf));
+    put_state(s.rng);
+}
+
+pub fn fill(n: Numbers) {
+    let values = n.values;
+    let mut items = entries();
+    let mut buf = entries();
+    let count = at_most(values[4], &items);
+    let slots = at_most(values[5], &buf);
+    fill_into(n, &mut items[..count], &mut buf[..slots]);
+}

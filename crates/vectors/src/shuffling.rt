@@ -1,0 +1,69 @@
+// Shuffles of the numbers 0, 1, .., and the parts that a partial shuffle leaves.
+use super::answers::put;
+use super::answers::put_state;
+use super::calls::generator;
+use super::hash::hash;
+use super::slices::at_most;
+use super::slices::count_up;
+use super::slices::entries;
+use super::slices::put_front;
+use super::text::Numbers;
+use slice::Shuffled;
+use slice::head;
+use slice::partial_shuffle;
+use slice::shuffle;
+use slice::tail;
+
+// The number, n and the words.
+fn put_shuffled(s: Shuffled) {
+    let outcome = s.outcome;
+    put(outcome.number() as u64);
+    put(s.n);
+    put(s.words);
+}
+
+// The length and the hash of the tail from `at` on, and of the head before it.
+fn put_parts(items: &mut [u32], at: u64) {
+    let last = tail(items, at);
+    put(last.len() as u64);
+    put(hash(last));
+    let first = head(items, at);
+    put(first.len() as u64);
+    put(hash(first));
+}
+
+// A partial shuffle: the number, n, the words, the front, the hash of the whole, the parts at a place, and the state.
+fn partial_shuffle_of(n: Numbers, items: &mut [u32]) {
+    let values = n.values;
+    count_up(items);
+    let s = partial_shuffle(generator(n), items, values[5]);
+    put_shuffled(s);
+    put_front(items);
+    put(hash(items));
+    put_parts(items, values[6]);
+    put_state(s.rng);
+}
+
+pub fn partially(n: Numbers) {
+    let values = n.values;
+    let mut items = entries();
+    let len = at_most(values[4], &items);
+    partial_shuffle_of(n, &mut items[..len]);
+}
+
+// A whole shuffle: the number, n, the words, the front, the hash of the whole and the state.
+fn shuffle_of(n: Numbers, items: &mut [u32]) {
+    count_up(items);
+    let s = shuffle(generator(n), items);
+    put_shuffled(s);
+    put_front(items);
+    put(hash(items));
+    put_state(s.rng);
+}
+
+pub fn wholly(n: Numbers) {
+    let values = n.values;
+    let mut items = entries();
+    let len = at_most(values[4], &items);
+    shuffle_of(n, &mut items[..len]);
+}
