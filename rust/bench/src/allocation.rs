@@ -3,7 +3,7 @@
 use std::alloc::{GlobalAlloc, Layout, System};
 use std::sync::atomic::{AtomicBool, AtomicUsize, Ordering};
 
-/// Whether allocations are counted: not while time is taken.
+/// Whether allocations are counted.
 static IS_ON: AtomicBool = AtomicBool::new(false);
 static TIMES: AtomicUsize = AtomicUsize::new(0);
 static BYTES: AtomicUsize = AtomicUsize::new(0);
@@ -47,14 +47,15 @@ pub struct Allocated {
     pub bytes: usize,
 }
 
-/// What `call` allocates.
-pub fn allocated(call: impl FnOnce()) -> Allocated {
+/// What `call` answers, and what it allocates.
+pub fn allocated<T>(call: impl FnOnce() -> T) -> (T, Allocated) {
     let before = (TIMES.load(Ordering::Relaxed), BYTES.load(Ordering::Relaxed));
     IS_ON.store(true, Ordering::Relaxed);
-    call();
+    let answer = call();
     IS_ON.store(false, Ordering::Relaxed);
-    Allocated {
+    let heap = Allocated {
         times: TIMES.load(Ordering::Relaxed) - before.0,
         bytes: BYTES.load(Ordering::Relaxed) - before.1,
-    }
+    };
+    (answer, heap)
 }

@@ -46,7 +46,7 @@ const QUICK: Plan = Plan {
 
 /// One call.
 const ONCE: Plan = Plan {
-    blocks: 1,
+    blocks: 0,
     block: Duration::ZERO,
 };
 

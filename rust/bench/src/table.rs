@@ -4,7 +4,7 @@ use reference::methods::Method;
 
 use crate::allocation::{Allocated, allocated};
 use crate::sides::{Case, Ours, Side, Theirs};
-use crate::timing::Plan;
+use crate::timing::{Plan, nanoseconds};
 
 /// Measures the cases and prints a line for each.
 pub fn print(cases: &[Case], plan: &Plan) {
@@ -19,8 +19,11 @@ pub fn print(cases: &[Case], plan: &Plan) {
 
 fn line(case: Case, plan: &Plan) -> String {
     let (mut theirs, mut ours) = (Theirs::new(case), Ours::new(case));
-    let heap = [&mut theirs as &mut dyn Side, &mut ours].map(|side| allocated(|| side.draw()));
-    let [rand, port] = plan.best([&mut theirs, &mut ours]);
+    // What a call allocates is counted at the first one.
+    let sides = [&mut theirs as &mut dyn Side, &mut ours];
+    let first = sides.map(|side| allocated(|| nanoseconds(side, 0, 1)));
+    let heap = first.map(|(_, heap)| heap);
+    let [rand, port] = plan.best([&mut theirs, &mut ours], first.map(|(time, _)| time));
     let lent = (case.amount as usize + case.scratch()) * size_of::<u32>();
     let cells = [
         format!(
