@@ -76,6 +76,12 @@ impl Arguments {
         }
     }
 
+    /// Whether a part of the program with these faults is to be run: where one is planted, only what has it.
+    pub fn wants(&self, faults: &[&str]) -> bool {
+        let plant = self.plant.as_deref();
+        plant.is_none_or(|plant| faults.contains(&plant))
+    }
+
     /// The bound of so many parts, where there are `all` of them.
     pub fn bound(&self, parts: usize, all: usize) -> Bound {
         let seconds = match (self.seconds, self.calls) {

@@ -102,12 +102,13 @@ impl Entry {
 const BATCH: u64 = 256;
 
 fn run<K: Kind>(arguments: &Arguments, bound: &Bound) -> Tally {
-    let mut trial = Trial::new(K::new(arguments.plant.as_deref()));
+    let plant = arguments.plant.as_deref();
+    let mut trial = Trial::new(K::new(plant), plant.is_some());
     K::fixed(|input| trial.compare(input));
     let mut source = Source::new(arguments.seed);
     let started = Instant::now();
     let mut left = bound.calls;
-    while left > 0 && bound.in_time(started) {
+    while left > 0 && !trial.is_settled() && bound.in_time(started) {
         let end = left.saturating_sub(BATCH);
         while left > end {
             let input = K::random(&mut source);
@@ -123,14 +124,17 @@ fn run<K: Kind>(arguments: &Arguments, bound: &Bound) -> Tally {
 /// A kind while it is run.
 struct Trial<K: Kind> {
     kind: K,
+    /// Whether a fault is planted, which it is enough to find once.
+    is_planted: bool,
     tally: Tally,
     first: Option<K::Input>,
 }
 
 impl<K: Kind> Trial<K> {
-    fn new(kind: K) -> Self {
+    fn new(kind: K, is_planted: bool) -> Self {
         Self {
             kind,
+            is_planted,
             tally: Tally::default(),
             first: None,
         }
@@ -140,7 +144,15 @@ impl<K: Kind> Trial<K> {
         K::rand(input) != self.kind.port(input)
     }
 
+    /// Whether no more inputs need be tried.
+    fn is_settled(&self) -> bool {
+        self.is_planted && self.tally.differ > 0
+    }
+
     fn compare(&mut self, input: K::Input) {
+        if self.is_settled() {
+            return;
+        }
         self.tally.calls += K::calls(&input);
         if self.differs(&input) {
             self.tally.differ += 1;

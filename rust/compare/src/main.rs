@@ -44,7 +44,7 @@ fn main() -> ExitCode {
     }
 }
 
-/// Runs all that was asked for. An error is a program that cannot be run.
+/// Runs all that was asked for; where a fault is planted, what it is planted in. An error is a program that cannot be run.
 fn run(arguments: &Arguments) -> Result<Tally, String> {
     let program = arguments.program.as_deref().map(|path| {
         Program::new(path, arguments.plant.as_deref()).map_err(|error| format!("{path}: {error}"))
@@ -53,11 +53,14 @@ fn run(arguments: &Arguments) -> Result<Tally, String> {
     let lines = program.as_ref().map_or(0, |_| Name::ALL.len());
     let all = KINDS.iter().map(|entry| entry.parts).sum::<usize>() + lines;
     let mut sum = Tally::default();
-    for entry in &KINDS {
+    for entry in KINDS.iter().filter(|entry| arguments.wants(entry.faults)) {
         sum += (entry.run)(arguments, &arguments.bound(entry.parts, all));
     }
     match program {
-        Some(program) => sum += program::run(&program, arguments, &arguments.bound(lines, all)),
+        Some(program) if arguments.wants(&program::FAULTS.map(|(name, _)| name)) => {
+            sum += program::run(&program, arguments, &arguments.bound(lines, all));
+        }
+        Some(_) => {}
         None => println!("words and draws: not compared, for want of --program PATH"),
     }
     Ok(sum)

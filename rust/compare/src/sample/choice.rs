@@ -88,17 +88,13 @@ impl Kind for Choice {
         input(length, amount, false)
     }
 
+    /// Of these rand's choice is seen only where that is cheap: there may be many.
     fn smaller(choice: &Input) -> Vec<Input> {
-        let Input {
-            length,
-            amount,
-            is_seen,
-        } = *choice;
-        let amounts = smaller(amount.into()).map(|less| input(length, less as u32, is_seen));
+        let Input { length, amount, .. } = *choice;
+        let amounts = smaller(amount.into()).map(|less| input(length, less as u32, false));
         let lengths = smaller(length.into()).filter(|&less| less >= amount.into());
-        amounts
-            .chain(lengths.map(|less| input(less as u32, amount, is_seen)))
-            .collect()
+        let lengths = lengths.map(|less| input(less as u32, amount, false));
+        amounts.chain(lengths).collect()
     }
 
     /// The method that gives rand's sample. Where several do, and where rand's sample would take much memory, it is the one by

@@ -3,8 +3,9 @@
 
 pub mod choice;
 mod faults;
-pub mod inputs;
+mod fixed;
 mod port;
+mod random;
 pub mod run;
 mod slices;
 
@@ -58,11 +59,11 @@ impl Kind for Sample {
     }
 
     fn fixed(visit: impl FnMut(Sampling)) {
-        inputs::fixed(visit);
+        fixed::calls(visit);
     }
 
     fn random(source: &mut Source) -> Sampling {
-        inputs::random(source)
+        random::call(source)
     }
 
     fn smaller(call: &Sampling) -> Vec<Sampling> {

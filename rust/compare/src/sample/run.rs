@@ -4,7 +4,7 @@ use reference::State;
 use reference::sample_line::hash;
 use reference::sampling::{Ended, Sampling};
 
-use super::{Answer, inputs, port};
+use super::{Answer, port, random};
 use crate::inputs::{Source, edges, smaller};
 use crate::kind::Kind;
 
@@ -93,7 +93,7 @@ fn total(input: &Input, end: End) -> Total {
     for _ in 0..input.calls {
         let call = Sampling {
             from: total.state,
-            ..inputs::random(&mut source)
+            ..random::call(&mut source)
         };
         let answer = Answer::new(&call, |indices, scratch| end(&call, indices, scratch));
         let Answer {

@@ -1,4 +1,4 @@
-//! Samples to try.
+//! The samples that every run tries: small ones without gap, and those at the bounds of the rules.
 
 use rand::SeedableRng;
 use rand::rngs::Xoshiro256PlusPlus;
@@ -6,14 +6,9 @@ use reference::methods::{Method, by_rand, due};
 use reference::sampling::Sampling;
 use reference::{State, from_state, state};
 
-use crate::inputs::Source;
-
 /// Every amount is tried at every length to this one, from so many generators.
 const SMALL: u64 = 40;
 const GENERATORS: u64 = 300;
-
-/// The slices of a random call are no longer.
-const LONGEST: u64 = 60_000;
 
 /// Amounts on both sides of the rules' bounds, and lengths on both sides of the lines at these amounts.
 const AMOUNTS: [u64; 6] = [0, 1, 11, 12, 162, 163];
@@ -60,13 +55,16 @@ const UNDER_BUDGETS: [(u64, u64); 4] = [
     (500_000, 2000),
 ];
 
+/// No slice of a refused call is longer.
+const LONGEST: u64 = 60_000;
+
 /// The state of one of rand's generators, as good as any other.
 fn some_state(number: u64) -> State {
     state(&Xoshiro256PlusPlus::seed_from_u64(number))
 }
 
 /// The scratch slice that a sample needs.
-fn scratch_needed(length: u64, amount: u64) -> usize {
+pub fn scratch_needed(length: u64, amount: u64) -> usize {
     let sizes = (u32::try_from(length), u32::try_from(amount));
     match sizes {
         (Ok(places), Ok(count)) if due(places, count) == Method::InPlace => length as usize,
@@ -75,7 +73,7 @@ fn scratch_needed(length: u64, amount: u64) -> usize {
 }
 
 /// A sample with slices that are exactly long enough and a budget that suffices.
-pub fn exact(from: State, length: u64, amount: u64) -> Sampling {
+fn exact(from: State, length: u64, amount: u64) -> Sampling {
     Sampling {
         from,
         length,
@@ -95,8 +93,8 @@ fn longer(call: &Sampling, by: usize) -> Sampling {
     }
 }
 
-/// The calls that every run makes.
-pub fn fixed(mut visit: impl FnMut(Sampling)) {
+/// Hands over all of them.
+pub fn calls(mut visit: impl FnMut(Sampling)) {
     small(&mut visit);
     for amount in AMOUNTS {
         let equal = [amount, amount + 1];
@@ -181,7 +179,7 @@ fn refusals(call: &Sampling, visit: &mut impl FnMut(Sampling)) {
         }
         if has(2) {
             refused.amount = refused.length + 1;
-            // No slice is as long where the length is too.
+            // Where the length is too long as well, no slice is as long as that.
             refused.indices_len = refused.amount.min(LONGEST) as usize;
         }
         if has(3) {
@@ -194,75 +192,5 @@ fn refusals(call: &Sampling, visit: &mut impl FnMut(Sampling)) {
             refused.budget = 0;
         }
         visit(refused);
-    }
-}
-
-/// A random sample. Most are small.
-pub fn random(source: &mut Source) -> Sampling {
-    let (length, amount) = sizes(source);
-    let needed = scratch_needed(length, amount).min(LONGEST as usize) as u64;
-    let indices_len = around(source, amount.min(LONGEST));
-    let scratch_len = around(source, needed);
-    Sampling {
-        from: if source.below(256) == 0 {
-            [0; 4]
-        } else {
-            source.state()
-        },
-        length,
-        amount,
-        budget: budget(source, amount),
-        indices_len,
-        scratch_len,
-    }
-}
-
-/// A length and an amount.
-fn sizes(source: &mut Source) -> (u64, u64) {
-    let any = |source: &mut Source, end: u64| u64::from(source.below(end as u32));
-    match source.below(128) {
-        0 => (source.u64() % (1 << 34), any(source, 400)),
-        1 => (44_000 + any(source, 3000), 163 + any(source, 12)),
-        2 => (source.u64() % (1 << 34), source.u64() % (1 << 34)),
-        3 => {
-            // Near the line of amounts from 12 to 162.
-            let amount = 12 + any(source, 40);
-            (
-                amount * 10 + amount * amount * 8 / 5 - 2 + any(source, 5),
-                amount,
-            )
-        }
-        4..16 => {
-            let length = any(source, 2000);
-            (length, any(source, length.min(300) + 2))
-        }
-        _ => {
-            let length = any(source, 64);
-            (length, any(source, length + 2))
-        }
-    }
-}
-
-/// A number of entries: what is needed, most often, or a few more, or fewer.
-fn around(source: &mut Source, needed: u64) -> usize {
-    let entries = match source.below(16) {
-        0 => needed.saturating_sub(1),
-        1 => needed / 2,
-        2 => 0,
-        3..8 => needed + u64::from(source.below(6)),
-        _ => needed,
-    };
-    entries as usize
-}
-
-/// A budget: enough, or about what so many indices need, or less.
-fn budget(source: &mut Source, amount: u64) -> u64 {
-    match source.below(4) {
-        0 => source.u64(),
-        1 => amount
-            .saturating_add(source.below(5).into())
-            .saturating_sub(2),
-        2 => source.u64() % amount.saturating_add(2),
-        _ => u64::MAX,
     }
 }

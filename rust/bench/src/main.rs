@@ -1,0 +1,72 @@
+//! Measures Gapyndura's samples against rand's, in one run, and prints a table in Markdown.
+
+mod allocation;
+mod sides;
+mod table;
+mod timing;
+
+use std::env;
+use std::process::ExitCode;
+use std::time::Duration;
+
+use allocation::Counting;
+use sides::Case;
+use timing::Plan;
+
+#[global_allocator]
+static ALLOCATOR: Counting = Counting;
+
+/// The cases of the table: an amount and a length.
+const CASES: [Case; 9] = [
+    Case::new(12, 351),
+    Case::new(12, 350),
+    Case::new(100, 10_000),
+    Case::new(163, 44_010),
+    Case::new(163, 44_009),
+    Case::new(2000, 500_000),
+    Case::new(2000, 499_999),
+    Case::new(20_000, 1 << 31),
+    Case::new(100_000, u32::MAX),
+];
+
+/// A case that is measured once and apart: the port's filter is too small for it.
+const LARGE: Case = Case::new(1_000_000, u32::MAX);
+
+/// Blocks of the table's cases.
+const PLAN: Plan = Plan {
+    blocks: 60,
+    block: Duration::from_millis(20),
+};
+
+/// The same, for a first look.
+const QUICK: Plan = Plan {
+    blocks: 6,
+    block: Duration::from_millis(4),
+};
+
+/// One call.
+const ONCE: Plan = Plan {
+    blocks: 0,
+    block: Duration::ZERO,
+};
+
+fn main() -> ExitCode {
+    let words: Vec<String> = env::args().skip(1).collect();
+    let words: Vec<&str> = words.iter().map(String::as_str).collect();
+    let (plan, is_quick) = match words[..] {
+        [] => (PLAN, false),
+        ["--quick"] => (QUICK, true),
+        _ => {
+            eprintln!("usage: bench [--quick]");
+            return ExitCode::from(2);
+        }
+    };
+    println!("Best of {} blocks for each side, in turn.\n", plan.blocks);
+    table::print(&CASES, &plan);
+    if is_quick {
+        return ExitCode::SUCCESS;
+    }
+    println!("\nOnce:\n");
+    table::print(&[LARGE], &ONCE);
+    ExitCode::SUCCESS
+}

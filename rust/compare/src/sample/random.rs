@@ -1,0 +1,79 @@
+//! Random samples.
+
+use reference::sampling::Sampling;
+
+use super::fixed::scratch_needed;
+use crate::inputs::Source;
+
+/// The slices of a random call are no longer.
+const LONGEST: u64 = 60_000;
+
+/// A random sample. Most are small.
+pub fn call(source: &mut Source) -> Sampling {
+    let (length, amount) = sizes(source);
+    let needed = scratch_needed(length, amount).min(LONGEST as usize) as u64;
+    let indices_len = around(source, amount.min(LONGEST));
+    let scratch_len = around(source, needed);
+    Sampling {
+        from: if source.below(256) == 0 {
+            [0; 4]
+        } else {
+            source.state()
+        },
+        length,
+        amount,
+        budget: budget(source, amount),
+        indices_len,
+        scratch_len,
+    }
+}
+
+/// A length and an amount.
+fn sizes(source: &mut Source) -> (u64, u64) {
+    let any = |source: &mut Source, end: u64| u64::from(source.below(end as u32));
+    match source.below(128) {
+        0 => (source.u64() % (1 << 34), any(source, 400)),
+        1 => (44_000 + any(source, 3000), 163 + any(source, 12)),
+        2 => (source.u64() % (1 << 34), source.u64() % (1 << 34)),
+        3 => {
+            // Near the line of amounts from 12 to 162.
+            let amount = 12 + any(source, 40);
+            (
+                amount * 10 + amount * amount * 8 / 5 - 2 + any(source, 5),
+                amount,
+            )
+        }
+        4..16 => {
+            let length = any(source, 2000);
+            (length, any(source, length.min(300) + 2))
+        }
+        _ => {
+            let length = any(source, 64);
+            (length, any(source, length + 2))
+        }
+    }
+}
+
+/// A number of entries: what is needed, most often, or a few more, or fewer.
+fn around(source: &mut Source, needed: u64) -> usize {
+    let entries = match source.below(16) {
+        0 => needed.saturating_sub(1),
+        1 => needed / 2,
+        2 => 0,
+        3..8 => needed + u64::from(source.below(6)),
+        _ => needed,
+    };
+    entries as usize
+}
+
+/// A budget: enough, or about what so many indices need, or less.
+fn budget(source: &mut Source, amount: u64) -> u64 {
+    match source.below(4) {
+        0 => source.u64(),
+        1 => amount
+            .saturating_add(source.below(5).into())
+            .saturating_sub(2),
+        2 => source.u64() % amount.saturating_add(2),
+        _ => u64::MAX,
+    }
+}
