@@ -1,6 +1,6 @@
 -- The definition of `sample_fill`, one law for each of its cases, and the fill put together from its two parts.
 -- Assumes nothing.
-use mathlib.Core.Path.{_≡_, refl, sym, ap, _∙_}
+use mathlib.Core.Path.{_≡_, refl, ap, _∙_}
 use mathlib.Core.Bool.{true, false}
 use mathlib.Core.List.{List}
 use Prim.Native.Nat.{ℕ, _-_, _^_, _≤_, _<_}
@@ -9,8 +9,8 @@ use borrow.Author.Tests.{lt-ltb, le-ltb}
 use Rattle.refusal.specs.declared.Refusal.the-variants.{TooLong, ZeroState}
 use Rattle.xoshiro256plusplus.specs.Generator.{zeroState}
 use Rattle.xoshiro256plusplus.specs.declared.Xoshiro256PlusPlus.{Xoshiro256PlusPlus}
-use Rattle.iterator.specs.Reservoir.{fillFront, fillOf}
-use Rattle.iterator.specs.Fill.{FrontFilled, Replaced, Filling, refuses, fills, sampleFillOf}
+use Rattle.iterator.specs.Reservoir.{fillOf}
+use Rattle.iterator.specs.Fill.{FrontFilled, Replaced, refuses, fills, sampleFillOf}
 use Rattle.refusal.specs.declared.Outcome.the-variants.{Done}
 use Rattle.refusal.specs.Answer.{answerOf}
 use Rattle.iterator.specs.declared.reservoir.Reading.{Reading}

@@ -1,5 +1,4 @@
 -- `replace_slots` meets its contract. The invariant is `Turn`. Assumes nothing.
-use mathlib.Core.Path.{_≡_}
 use mathlib.Core.Logic.{⊎-elim}
 use Prim.Native.Nat.{_+_, _-_}
 use native.Mathlib.Omega.{arith}
@@ -46,7 +45,7 @@ mul-buf-2 : tie.Need-mul-buf-2 Inv-loop μ-loop
 mul-buf-2 c = search needs
 
 slice-write-buf : tie.Need-slice-write-buf Inv-loop μ-loop
-slice-write-buf c = search needs
+slice-write-buf c = omega (arith, c .before .before .before .before .before .before .before .loop .inv .long)
 
 add-p : tie.Need-add-p Inv-loop μ-loop
 add-p c = search needs
