@@ -46,7 +46,7 @@ impl Answer {
 impl Kind for Sample {
     const NAME: &'static str = "sample";
     const FAULTS: &'static [&'static str] = &faults::NAMES;
-    const PARTS: usize = 4;
+    const PARTS: usize = 8;
     type Input = Sampling;
     type Answer = Answer;
 
