@@ -1,0 +1,9 @@
+pub mod Totals
+pub mod Rising
+pub mod Weights
+pub mod Whole
+pub mod Lookups
+pub mod Search
+pub mod Writing
+pub mod Items
+pub mod Checking
