@@ -7,3 +7,7 @@ pub mod Search
 pub mod Writing
 pub mod Items
 pub mod Checking
+pub mod NewCases
+pub mod LookupCases
+pub mod PickCases
+pub mod ChangeCases

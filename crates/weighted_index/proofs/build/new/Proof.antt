@@ -1,80 +1,87 @@
+-- `new` meets its contract: a law for each case of the definition. Assumes nothing.
+use mathlib.Core.Path.{sym, _∙_}
+use native.Mathlib.Omega.{arith}
+use denote.Ref.{now}
+use Rattle.weighted_index.specs.Answers.{refuses}
+use Rattle.weighted_index.specs.New.{makes}
+use Rattle.weighted_index.proofs.NewCases.{too-long, no-weights, too-short, overflow, zero-weights, table-made}
 use borrow.Author.Needs.{needs}
 use Rattle.weighted_index.proofs.build.new.Statement.{statement}
 use Rattle.weighted_index.proofs.build.new.Tie as tie
-use Rattle.weighted_index.proofs.build.new.Reads as reads
-use Rattle.weighted_index.proofs.build.new.Lts as lts
-use Rattle.weighted_index.proofs.answer.accepted.Reads as accepted-reads
-use Rattle.weighted_index.proofs.answer.refused.Reads as refused-reads
-use Rattle.weighted_index.proofs.build.sum.Reads as sum-reads
-use Rattle.weighted_index.proofs.build.write_sums.Reads as write-sums-reads
 
--- src/build.rt:51:9
 refused-requires : tie.Need-refused-requires
 refused-requires c κs = search needs
 
--- src/build.rt:51:9
 returns : tie.Need-returns
-returns c = ?
+unfolding refuses
+returns c =
+    let a = c .before .before .before .before .args in
+    rw (c .refused .ensures) (sym (too-long (now (a .weights)) (now (a .cumulative-weights)) (c .before .if1 .taken)))
 
--- src/build.rt:54:9
 refused-requires-2 : tie.Need-refused-requires-2
 refused-requires-2 c κs = search needs
 
--- src/build.rt:54:9
 returns-2 : tie.Need-returns-2
-returns-2 c = ?
+unfolding refuses
+returns-2 c =
+    let a = c .before .before .before .before .before .args in
+    rw (c .refused2 .ensures) (sym (no-weights (now (a .weights)) (now (a .cumulative-weights)) (c .before .before .if1 .left) (c .before .if2 .taken)))
 
--- src/build.rt:56:35
 sub-if3 : tie.Need-sub-if3
 sub-if3 c = search needs
 
--- src/build.rt:57:9
 refused-requires-3 : tie.Need-refused-requires-3
 refused-requires-3 c κs = search needs
 
--- src/build.rt:57:9
 returns-3 : tie.Need-returns-3
-returns-3 c = ?
+unfolding refuses
+returns-3 c =
+    let a = c .before .before .before .before .before .before .args in
+    rw (c .refused3 .ensures) (sym (too-short (now (a .weights)) (now (a .cumulative-weights)) (c .before .before .before .if1 .left) (c .before .before .if2 .left) (c .before .if3 .taken)))
 
--- src/build.rt:59:9
 sum-requires : tie.Need-sum-requires
 sum-requires c κs = search needs
 
--- src/build.rt:61:9
 refused-requires-4 : tie.Need-refused-requires-4
 refused-requires-4 c κs = search needs
 
--- src/build.rt:61:9
 returns-4 : tie.Need-returns-4
-returns-4 c = ?
+unfolding refuses
+returns-4 c =
+    let a = c .before .before .before .before .before .before .before .before .args in
+    let all = c .before .before .sum .ensures in
+    rw (c .refused4 .ensures) (sym (overflow (now (a .weights)) (now (a .cumulative-weights)) (c .before .before .before .before .before .if1 .left) (c .before .before .before .before .if2 .left) (c .before .before .before .if3 .left) (omega (arith, c .before .if4 .taken, all))))
 
--- src/build.rt:64:9
 refused-requires-5 : tie.Need-refused-requires-5
 refused-requires-5 c κs = search needs
 
--- src/build.rt:64:9
 returns-5 : tie.Need-returns-5
-returns-5 c = ?
+unfolding refuses
+returns-5 c =
+    let a = c .before .before .before .before .before .before .before .before .before .args in
+    let all = c .before .before .before .sum .ensures in
+    rw (c .refused5 .ensures) (sym (zero-weights (now (a .weights)) (now (a .cumulative-weights)) (c .before .before .before .before .before .before .if1 .left) (c .before .before .before .before .before .if2 .left) (c .before .before .before .before .if3 .left) (sym all ∙ c .before .if5 .taken)))
 
--- src/build.rt:66:17
 cast-total : tie.Need-cast-total
 cast-total c = search needs
 
--- src/build.rt:67:5
 write-sums-requires : tie.Need-write-sums-requires
 write-sums-requires c κs = search needs
 
--- src/build.rt:68:5
 accepted-requires : tie.Need-accepted-requires
 accepted-requires c κs = search needs
 
--- src/build.rt:45:1
 same-length : tie.Need-same-length
 same-length c = search needs
 
--- src/build.rt:45:1
 returns-6 : tie.Need-returns-6
-returns-6 c = ?
+unfolding makes
+returns-6 c =
+    let a = c .before .before .before .before .before .before .before .before .before .before .before .before .before .args in
+    let all = c .before .before .before .before .before .before .before .sum .ensures in
+    let some = c .before .before .before .before .before .if5 .left in
+    rw (c .accepted .ensures, c .before .before .before .write-sums .ensures, all)
+    (sym (table-made (now (a .weights)) (now (a .cumulative-weights)) (c .before .before .before .before .before .before .before .before .before .before .if1 .left) (c .before .before .before .before .before .before .before .before .before .if2 .left) (c .before .before .before .before .before .before .before .before .if3 .left) (omega (arith, c .before .before .before .before .before .before .if4 .left, all)) (omega (arith, some, all))))
 
 pub new-spec : {M : Type 1} → statement M
 new-spec =

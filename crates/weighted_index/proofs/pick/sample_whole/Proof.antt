@@ -1,47 +1,46 @@
+-- `sample_whole` meets its contract: a law for each way that the draw ends. Assumes nothing.
+use native.Mathlib.Omega.{arith}
+use denote.Ref.{now}
+use Rattle.weighted_index.proofs.Whole.{whole}
+use Rattle.weighted_index.proofs.PickCases.{pick-spent, pick-item}
 use borrow.Author.Needs.{needs}
 use Rattle.weighted_index.proofs.pick.sample_whole.Statement.{statement}
 use Rattle.weighted_index.proofs.pick.sample_whole.Tie as tie
-use Rattle.weighted_index.proofs.pick.sample_whole.Reads as reads
-use Rattle.weighted_index.proofs.pick.sample_whole.Lts as lts
-use Rattle.uniform_int.proofs.UniformInt.new.Reads as new-reads
-use Rattle.uniform_int.proofs.UniformInt.sample.Reads as sample-reads
-use Rattle.weighted_index.proofs.pick.partition_point.Reads as partition-point-reads
 
--- src/pick.rt:51:9
 new-requires : tie.Need-new-requires
-new-requires c κs = ?
+new-requires c κs = let a = c .before .args in whole (a .table) (now (a .cumulative-weights)) (c .before .pre .1) .weighs
 
--- src/pick.rt:52:9
 sample-requires : tie.Need-sample-requires
 sample-requires c κs = search needs
 
--- src/pick.rt:56:21
 enum-known-draw : tie.Need-enum-known-draw
 enum-known-draw c = search needs
 
--- src/pick.rt:58:37
 enum-told : tie.Need-enum-told
 enum-told c = search needs
 
--- src/pick.rt:57:9
 returns : tie.Need-returns
-returns c = ?
+returns c =
+    let a = c .before .before .before .before .before .before .args in
+    pick-spent (a .rng) (a .table) (now (a .cumulative-weights)) (a .budget) (c .before .before .before .before .new .result) (c .before .before .before .before .new .ensures) (c .before .before .before .sample .result) (c .before .before .before .sample .ensures) (c .enum-told .given .1)
 
--- src/pick.rt:63:17
 sub-last : tie.Need-sub-last
-sub-last c = ?
+sub-last c = let a = c .before .before .before .before .before .before .before .before .args in omega (arith, whole (a .table) (now (a .cumulative-weights)) (c .before .before .before .before .before .before .before .before .pre .1) .some)
 
--- src/pick.rt:64:9
 partition-point-requires : tie.Need-partition-point-requires
-partition-point-requires c κs = ?
+partition-point-requires c κs =
+    let a = c .before .before .before .before .before .before .before .before .args in
+    let w = whole (a .table) (now (a .cumulative-weights)) (c .before .before .before .before .before .before .before .before .pre .1) in
+    (w .room, w .rising)
 
--- src/pick.rt:65:16
 cast-item : tie.Need-cast-item
-cast-item c = search needs
+cast-item c = omega (arith, c .before .before .before .before .before .before .before .before .before .pre .0, c .partition-point .ensures .1)
 
--- src/pick.rt:41:1
 returns-2 : tie.Need-returns-2
-returns-2 c = ?
+returns-2 c =
+    let a = c .before .before .before .before .before .before .before .before .before .args in
+    let d = c .before .before .before .draw .given in
+    pick-item (a .rng) (a .table) (now (a .cumulative-weights)) (a .budget) (c .before .before .before .before .before .before .before .new .result) (c .before .before .before .before .before .before .before .new .ensures) (c .before .before .before .before .before .before .sample .result) (c .before .before .before .before .before .before .sample .ensures) (d .0 .0) (c .partition-point .result) (d .1) (c .partition-point .ensures .0)
 
 pub sample-whole-spec : {M : Type 1} → statement M
 sample-whole-spec =

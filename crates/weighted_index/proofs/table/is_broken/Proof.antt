@@ -1,37 +1,37 @@
+-- `is_broken` meets its contract: a whole table fails each test that answers. Assumes nothing.
+use mathlib.Core.Path.{sym, ap, _∙_}
+use mathlib.Core.Bool.{not}
+use native.Mathlib.Omega.{arith}
+use denote.Ref.{now}
+use Rattle.weighted_index.proofs.Whole.{broken, sums-decide}
 use borrow.Author.Needs.{needs}
 use Rattle.weighted_index.proofs.table.is_broken.Statement.{statement}
 use Rattle.weighted_index.proofs.table.is_broken.Tie as tie
-use Rattle.weighted_index.proofs.table.is_broken.Reads as reads
-use Rattle.weighted_index.proofs.table.is_broken.Lts as lts
-use Rattle.weighted_index.proofs.table.is_rising.Reads as is-rising-reads
 
--- src/table.rt:39:9
 returns : tie.Need-returns
-returns c = ?
+returns c = let a = c .before .before .args in sym (broken (a .table) (now (a .cumulative-weights)) (λ w. omega (arith, w .some)))
 
--- src/table.rt:42:9
 returns-2 : tie.Need-returns-2
-returns-2 c = ?
+returns-2 c = let a = c .before .before .before .args in sym (broken (a .table) (now (a .cumulative-weights)) (λ w. omega (arith, w .weighs)))
 
--- src/table.rt:45:15
 sub-if3 : tie.Need-sub-if3
 sub-if3 c = search needs
 
--- src/table.rt:46:9
 returns-3 : tie.Need-returns-3
-returns-3 c = ?
+returns-3 c = let a = c .before .before .before .before .args in sym (broken (a .table) (now (a .cumulative-weights)) (λ w. omega (arith, w .room)))
 
--- src/table.rt:48:14
 sub-n : tie.Need-sub-n
 sub-n c = search needs
 
--- src/table.rt:49:6
 is-rising-requires : tie.Need-is-rising-requires
 is-rising-requires c κs = search needs
 
--- src/table.rt:33:1
 returns-4 : tie.Need-returns-4
-returns-4 c = ?
+returns-4 c =
+    let a = c .before .before .before .before .before .args in
+    let n = c .before .before .before .if1 .left in
+    let m = c .before .before .if2 .left in
+    ap not (c .is-rising .ensures) ∙ sums-decide (a .table) (now (a .cumulative-weights)) (omega (arith, n)) (omega (arith, m)) (omega arith)
 
 pub is-broken-spec : {M : Type 1} → statement M
 is-broken-spec =

@@ -29,7 +29,7 @@ cast-running c = search needs
 
 loop-holds : tie.Need-loop-holds Inv-loop μ-loop
 loop-holds c =
-    let s = c .before .before .before in
+    let s = c .before .before .before .before in
     let a = s .args in
     let w = whole (a .table) (now (a .cumulative-weights)) (s .pre .0) in
     (refl, refl, held-length (a .table) (now (a .cumulative-weights)) w, begin (held s) (now (a .places)) (now (a .weights)) (a .table .«total_weight») (s .pre .1) (sym (held-total (a .table) (now (a .cumulative-weights)) w)) (omega arith))
@@ -42,25 +42,25 @@ shared-slice-read-place c = search needs
 
 returns : tie.Need-returns Inv-loop μ-loop
 returns c =
-    let s = c .before .before .before .before .before .before .before in
+    let s = c .before .before .before .before .before .before .before .before in
     let l = c .before .before .before .loop in
     sym (turn-order (held s) (now (s .args .places)) (now (s .args .weights)) (l .running) (l .least) (l .j) (l .inv .3) (omega arith) (c .if1 .taken))
 
 returns-2 : tie.Need-returns-2 Inv-loop μ-loop
 returns-2 c =
-    let s = c .before .before .before .before .before .before .before .before in
+    let s = c .before .before .before .before .before .before .before .before .before in
     let l = c .before .before .before .before .loop in
     sym (turn-range (held s) (now (s .args .places)) (now (s .args .weights)) (l .running) (l .least) (l .j) (l .inv .3) (omega arith) (c .before .if1 .left) (omega (arith, l .inv .2)))
 
 weight-at-requires : tie.Need-weight-at-requires Inv-loop μ-loop
-weight-at-requires c κs = (c .before .before .before .before .before .before .before .before .pre .0, omega arith)
+weight-at-requires c κs = (c .before .before .before .before .before .before .before .before .before .pre .0, omega arith)
 
 cast-next : tie.Need-cast-next Inv-loop μ-loop
 cast-next c = search needs
 
 sub-next : tie.Need-sub-next Inv-loop μ-loop
 sub-next c =
-    let s = c .before .before .before .before .before .before .before .before .before in
+    let s = c .before .before .before .before .before .before .before .before .before .before in
     let l = c .before .before .before .before .before .loop in
     old-fits (held s) (now (s .args .places)) (now (s .args .weights)) (l .running) (l .least) (l .j) (l .inv .3) (omega arith) (c .before .before .if1 .left) (omega (arith, l .inv .2)) (c .weight-at .result) (c .weight-at .ensures)
 
@@ -79,7 +79,7 @@ add-next c =
 
 returns-3 : tie.Need-returns-3 Inv-loop μ-loop
 returns-3 c =
-    let s = c .before .before .before .before .before .before .before .before .before .before .before in
+    let s = c .before .before .before .before .before .before .before .before .before .before .before .before in
     let l = c .before .before .before .before .before .before .before .loop in
     let w = c .before .before .weight-at in
     sym (turn-overflow (held s) (now (s .args .places)) (now (s .args .weights)) (l .running) (l .least) (l .j) (l .inv .3) (omega arith) (c .before .before .before .before .if1 .left) (omega (arith, l .inv .2)) (w .result) (w .ensures) (omega (arith, c .if3 .taken)))
@@ -95,14 +95,14 @@ loop-less c = search needs
 
 loop-again : tie.Need-loop-again Inv-loop μ-loop
 loop-again c =
-    let s = c .before .before .before .before .before .before .before .before .before .before .before in
+    let s = c .before .before .before .before .before .before .before .before .before .before .before .before in
     let l = c .before .before .before .before .before .before .before .loop in
     let w = c .before .before .weight-at in
     (l .inv .0, l .inv .1, l .inv .2, turn (held s) (now (s .args .places)) (now (s .args .weights)) (l .running) (l .least) (l .j) (l .inv .3) (omega arith) (c .before .before .before .before .if1 .left) (omega (arith, l .inv .2)) (w .result) (w .ensures) (omega (arith, c .if3 .left)))
 
 returns-4 : tie.Need-returns-4 Inv-loop μ-loop
 returns-4 c =
-    let s = c .before .before .before .before .before .before in
+    let s = c .before .before .before .before .before .before .before in
     let l = c .before .before .loop in
     sym (finish-zero (held s) (now (s .args .places)) (now (s .args .weights)) (l .running) (l .least) (l .j) (l .inv .3) (omega arith) (c .if4 .taken))
 
@@ -111,7 +111,7 @@ cast-total c = omega (arith, c .before .before .loop .inv .3 .small)
 
 returns-5 : tie.Need-returns-5 Inv-loop μ-loop
 returns-5 c =
-    let s = c .before .before .before .before .before .before in
+    let s = c .before .before .before .before .before .before .before in
     let l = c .before .before .loop in
     sym (finish (held s) (now (s .args .places)) (now (s .args .weights)) (l .running) (l .least) (l .j) (l .inv .3) (omega arith) (c .if4 .left))
 
