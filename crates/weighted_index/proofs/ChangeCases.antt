@@ -12,11 +12,13 @@ use Rattle.refusal.specs.Answer.{Answer, done, declined}
 use Rattle.refusal.specs.declared.Refusal.{Refusal}
 use Rattle.refusal.specs.declared.Refusal.the-variants.{InvalidTable, SliceTooShort, TooLong}
 use Rattle.weighted_index.specs.Weights.{mostWeights, total}
-use Rattle.weighted_index.specs.Tables.{brokenTable, heldWeights}
+use Rattle.weighted_index.specs.Tables.{heldSums, brokenTable, heldWeights}
 use Rattle.weighted_index.specs.Answers.{Making, refuses}
 use Rattle.weighted_index.specs.New.{makes}
 use Rattle.weighted_index.specs.Change.{replaced, itemsRefusal, listsRefusal, settled, updateOf, checkedAs, checkOf}
 use Rattle.weighted_index.specs.declared.answer.WeightedIndex.{WeightedIndex}
+use Rattle.weighted_index.proofs.Whole.{whole, held-length}
+use Rattle.weighted_index.proofs.Items.{replaced-length}
 
 -- ---- the two lists
 
@@ -80,3 +82,12 @@ module _ (t : WeightedIndex) (s ps vs : List ℕ) where
 
           pub all-accepted : itemsRefusal held 0 ps vs ≡ none → updateOf t s ps vs ≡ makes (replaced held ps vs) s
           all-accepted q = goes ∙ rw (lists-agree held ps vs e ∙ q)
+
+          size : length (replaced held ps vs) ≡ t .count
+          size = replaced-length held ps vs ∙ held-length t s (whole t s w)
+
+          -- as the code leaves it: the new total m, and s′ with the new sums
+          pub changed : (m : ℕ) (s′ : List ℕ) → itemsRefusal held 0 ps vs ≡ none → total (replaced held ps vs) ≡ m → s′ ≡ heldSums (replaced held ps vs) s
+              → updateOf t s ps vs ≡ record { answer = done (t .count ∷ m ∷ []); words = 0; sums = s′ }
+          unfolding makes
+          changed m s′ q n f = all-accepted q ∙ rw (size, n, f)

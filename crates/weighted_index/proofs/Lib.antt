@@ -11,3 +11,5 @@ pub mod NewCases
 pub mod LookupCases
 pub mod PickCases
 pub mod ChangeCases
+pub mod Merging
+pub mod Rewriting
