@@ -13,3 +13,4 @@ pub mod PickCases
 pub mod ChangeCases
 pub mod Merging
 pub mod Rewriting
+pub mod WholeTables

@@ -6,3 +6,6 @@ pub mod New
 pub mod Change
 pub mod Lookup
 pub mod Pick
+pub mod WholeTables
+pub mod History
+pub mod Shares
