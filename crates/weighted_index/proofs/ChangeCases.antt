@@ -1,13 +1,14 @@
 -- The definition of `update_weights`, one law for each of its cases.
 -- Assumes nothing.
 use mathlib.Core.Path.{_≡_, refl, sym, ap, _∙_}
-use mathlib.Core.Bool.{true, false}
+use mathlib.Core.Bool.{Bool, true, false}
 use mathlib.Core.List.{List, [], _∷_}
 use mathlib.Core.Option.{Option, none, some}
 use Prim.Native.Nat.{ℕ, _≤_, _<_}
 use native.Mathlib.Omega.{arith}
+use lib.Dec.{eqb}
 use lib.ListN.{length, getD}
-use borrow.Author.Tests.{lt-ltb, le-ltb, eq-eqb, ne-eqb}
+use borrow.Author.Tests.{lt-ltb, le-ltb, eq-eqb, ne-eqb, eqb-true, eqb-false}
 use Rattle.refusal.specs.Answer.{Answer, done, declined}
 use Rattle.refusal.specs.declared.Refusal.{Refusal}
 use Rattle.refusal.specs.declared.Refusal.the-variants.{InvalidTable, SliceTooShort, TooLong}
@@ -15,10 +16,12 @@ use Rattle.weighted_index.specs.Weights.{mostWeights, total}
 use Rattle.weighted_index.specs.Tables.{heldSums, brokenTable, heldWeights}
 use Rattle.weighted_index.specs.Answers.{Making, refuses}
 use Rattle.weighted_index.specs.New.{makes}
-use Rattle.weighted_index.specs.Change.{replaced, itemsRefusal, listsRefusal, settled, updateOf, checkedAs, checkOf}
+use Rattle.weighted_index.specs.Change.{replaced, itemsRefusal, listsRefusal, settled, updateOf, answerOfChecked, checkedAs, checkOf}
 use Rattle.weighted_index.specs.declared.answer.WeightedIndex.{WeightedIndex}
+use Rattle.weighted_index.specs.declared.update.Checked.{Checked}
+use Rattle.weighted_index.specs.declared.update.Checked.the-variants.{Total, Refused}
 use Rattle.weighted_index.proofs.Whole.{whole, held-length}
-use Rattle.weighted_index.proofs.Items.{replaced-length}
+use Rattle.weighted_index.proofs.Items.{refused-none, replaced-length}
 
 -- ---- the two lists
 
@@ -31,6 +34,13 @@ module _ (ws ps vs : List ℕ) where
   unfolding listsRefusal
   lists-agree e = rw (eq-eqb (length ps) (length vs) e)
 
+  pub lists-passed : listsRefusal ws ps vs ≡ none → (length ps ≡ length vs) × (itemsRefusal ws 0 ps vs ≡ none)
+  lists-passed e = go (eqb (length ps) (length vs)) refl
+    where
+      go : (b : Bool) → eqb (length ps) (length vs) ≡ b → (length ps ≡ length vs) × (itemsRefusal ws 0 ps vs ≡ none)
+      go true q = let h = eqb-true (length ps) (length vs) q in (h, sym (lists-agree h) ∙ e)
+      go false q = absurd (refused-none (sym (lists-differ (eqb-false (length ps) (length vs) q)) ∙ e))
+
 -- ---- what the items' checks answer
 
 refused-end : (o : Option Refusal) (n : ℕ) (why : Refusal) (ws l : List ℕ) → declined why ≡ checkedAs o n → settled o ws l ≡ refuses why l
@@ -42,9 +52,10 @@ accepted-end : (o : Option Refusal) (n m : ℕ) → done (m ∷ []) ≡ checkedA
 accepted-end none n m e = (refl, sym (ap (λ (a : Answer). getD (a .values) 0 0) e))
 accepted-end (some y) n m e = let z : _≡_ {A = ℕ} 1 0 = ap (λ (a : Answer). length (a .values)) e in absurd (omega arith)
 
-pub items-accepted : (ws ps vs : List ℕ) (m : ℕ) → done (m ∷ []) ≡ checkOf ws ps vs → (itemsRefusal ws 0 ps vs ≡ none) × (total (replaced ws ps vs) ≡ m)
+pub items-accepted : (ws ps vs : List ℕ) (r : Checked) (m : ℕ) → answerOfChecked r ≡ checkOf ws ps vs → r ≡ Total m
+    → (itemsRefusal ws 0 ps vs ≡ none) × (total (replaced ws ps vs) ≡ m)
 unfolding checkOf
-items-accepted ws ps vs m e = accepted-end (itemsRefusal ws 0 ps vs) (total (replaced ws ps vs)) m e
+items-accepted ws ps vs r m e q = accepted-end (itemsRefusal ws 0 ps vs) (total (replaced ws ps vs)) m (sym (ap answerOfChecked q) ∙ e)
 
 -- ---- the call
 
@@ -75,10 +86,12 @@ module _ (t : WeightedIndex) (s ps vs : List ℕ) where
         too-short ne = goes ∙ rw (lists-differ held ps vs ne)
 
         module _ (e : length ps ≡ length vs) where
-          pub item-refused : (why : Refusal) → declined why ≡ checkOf held ps vs → updateOf t s ps vs ≡ refuses why s
+          pub item-refused : (r : Checked) (why : Refusal) → answerOfChecked r ≡ checkOf held ps vs → r ≡ Refused why → updateOf t s ps vs ≡ refuses why s
           unfolding checkOf
-          item-refused why q =
-              goes ∙ rw (lists-agree held ps vs e) (refused-end (itemsRefusal held 0 ps vs) (total (replaced held ps vs)) why (replaced held ps vs) s q)
+          item-refused r why f q =
+              goes
+              ∙ rw (lists-agree held ps vs e)
+              (refused-end (itemsRefusal held 0 ps vs) (total (replaced held ps vs)) why (replaced held ps vs) s (sym (ap answerOfChecked q) ∙ f))
 
           pub all-accepted : itemsRefusal held 0 ps vs ≡ none → updateOf t s ps vs ≡ makes (replaced held ps vs) s
           all-accepted q = goes ∙ rw (lists-agree held ps vs e ∙ q)

@@ -14,3 +14,4 @@ pub mod ChangeCases
 pub mod Merging
 pub mod Rewriting
 pub mod WholeTables
+pub mod History

@@ -1,13 +1,13 @@
 -- Totals and running sums of lists of weights.
 -- Assumes nothing.
-use mathlib.Core.Path.{_≡_, refl}
-use mathlib.Core.Bool.{Bool, true, false}
+use mathlib.Core.Path.{_≡_, refl, sym, _∙_}
+use mathlib.Core.Bool.{Bool, true, false, false≢true}
 use mathlib.Core.List.{List, [], _∷_}
 use Prim.Native.Nat.{ℕ, zero, suc, _+_, _-_, _≤_, _<_}
 use native.Mathlib.Omega.{arith}
-use lib.Dec.{eqb}
+use lib.Dec.{ltb, eqb}
 use lib.ListN.{length, take, getD, set}
-use borrow.Author.Tests.{lt-ltb, le-ltb, eq-eqb, eqb-true}
+use borrow.Author.Tests.{lt-ltb, le-ltb, ltb-true, ltb-false, eq-eqb, eqb-true}
 use Rattle.counting.proofs.Tests.{and-true, is-false}
 use Rattle.weighted_index.specs.Weights.{mostTotal, total, overflows, allZero, sumsFrom}
 
@@ -61,6 +61,20 @@ zero-total (w ∷ ws) h = let u = and-true (eqb w 0) (allZero ws) h in omega (ar
 
 pub not-all-zero : (ws : List ℕ) → 0 < total ws → allZero ws ≡ false
 not-all-zero ws h = is-false (allZero ws) (λ e. omega (arith, zero-total ws e))
+
+pub small-total : (ws : List ℕ) → overflows ws ≡ false → total ws ≤ mostTotal
+unfolding overflows
+small-total ws e = ltb-false mostTotal (total ws) e
+
+pub some-total : (ws : List ℕ) → allZero ws ≡ false → 0 < total ws
+some-total ws e = go (ltb 0 (total ws)) refl
+  where
+    go : (b : Bool) → ltb 0 (total ws) ≡ b → 0 < total ws
+    go true q = ltb-true 0 (total ws) q
+    go false q =
+        let n = ltb-false 0 (total ws) q in
+        let z : _≡_ {A = Bool} true false = sym (all-zero ws (omega arith)) ∙ e in
+        absurd (false≢true (sym z))
 
 pub some-weight : (ws : List ℕ) → 0 < total ws → 0 < length ws
 some-weight [] h = absurd (omega (arith, total-nil))

@@ -1,10 +1,9 @@
 -- `update_weights` meets its contract: a law for each case of the definition. Assumes nothing.
-use mathlib.Core.Path.{sym, ap, _∙_}
+use mathlib.Core.Path.{sym, _∙_}
 use native.Mathlib.Omega.{arith}
 use denote.Ref.{now}
 use Rattle.weighted_index.specs.Answers.{refuses}
 use Rattle.weighted_index.specs.Tables.{heldWeights}
-use Rattle.weighted_index.specs.Change.{answerOfChecked}
 use Rattle.weighted_index.proofs.ChangeCases.{too-long, list-too-long, invalid, too-short, item-refused, items-accepted, changed}
 use borrow.Author.Needs.{needs}
 use Rattle.weighted_index.proofs.update.update_weights.Statement.{statement}
@@ -76,7 +75,7 @@ rewrite-requires c κs =
     record {
       whole = sym (c .before .before .before .before .before .before .before .before .is-broken .ensures) ∙ c .before .before .before .before .before .before .before .if3 .left;
       same = c .before .before .before .before .before .before .if4 .left;
-      accepted = items-accepted (heldWeights (a .table) (now (a .cumulative-weights))) (now (a .places)) (now (a .weights)) (m .0 .0) (sym (ap answerOfChecked (m .1)) ∙ k .ensures) .0;
+      accepted = items-accepted (heldWeights (a .table) (now (a .cumulative-weights))) (now (a .places)) (now (a .weights)) (k .result) (m .0 .0) (k .ensures) (m .1) .0;
     }
 
 accepted-requires : tie.Need-accepted-requires
@@ -90,10 +89,10 @@ unfolding refuses
 returns-5 c =
     let a = c .before .before .before .before .before .before .before .before .before .before .before .before .before .before .before .args in
     let whole = sym (c .before .before .before .before .before .before .before .before .is-broken .ensures) ∙ c .before .before .before .before .before .before .before .if3 .left in
+    let k = c .before .before .before .before .check-items in
     let why = c .before .before .checked .given in
     rw (c .refused5 .ensures)
-    (sym (item-refused (a .table) (now (a .cumulative-weights)) (now (a .places)) (now (a .weights)) (c .before .before .before .before .before .before .before .before .before .before .before .if1 .left) (c .before .before .before .before .before .before .before .before .before .before .if2 .left) whole (c .before .before .before .before .before .before .if4 .left) (why .0 .0)
-    (sym (ap answerOfChecked (why .1)) ∙ c .before .before .before .before .check-items .ensures)))
+    (sym (item-refused (a .table) (now (a .cumulative-weights)) (now (a .places)) (now (a .weights)) (c .before .before .before .before .before .before .before .before .before .before .before .if1 .left) (c .before .before .before .before .before .before .before .before .before .before .if2 .left) whole (c .before .before .before .before .before .before .if4 .left) (k .result) (why .0 .0) (k .ensures) (why .1)))
 
 same-length-4 : tie.Need-same-length-4
 same-length-4 c = search needs
@@ -102,8 +101,9 @@ returns-6 : tie.Need-returns-6
 returns-6 c =
     let a = c .before .before .before .before .before .before .before .before .before .before .before .before .before .before .before .before .before .before .before .args in
     let whole = sym (c .before .before .before .before .before .before .before .before .before .before .before .before .is-broken .ensures) ∙ c .before .before .before .before .before .before .before .before .before .before .before .if3 .left in
+    let k = c .before .before .before .before .before .before .before .before .check-items in
     let m = c .before .before .before .before .before .before .checked2 .given in
-    let e = items-accepted (heldWeights (a .table) (now (a .cumulative-weights))) (now (a .places)) (now (a .weights)) (m .0 .0) (sym (ap answerOfChecked (m .1)) ∙ c .before .before .before .before .before .before .before .before .check-items .ensures) in
+    let e = items-accepted (heldWeights (a .table) (now (a .cumulative-weights))) (now (a .places)) (now (a .weights)) (k .result) (m .0 .0) (k .ensures) (m .1) in
     rw (c .accepted .ensures)
     (sym (changed (a .table) (now (a .cumulative-weights)) (now (a .places)) (now (a .weights)) (c .before .before .before .before .before .before .before .before .before .before .before .before .before .before .before .if1 .left) (c .before .before .before .before .before .before .before .before .before .before .before .before .before .before .if2 .left) whole (c .before .before .before .before .before .before .before .before .before .before .if4 .left) (m .0 .0) _ (e .0) (e .1) (c .before .before .before .rewrite .ensures)))
 
