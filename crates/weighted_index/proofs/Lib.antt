@@ -15,3 +15,6 @@ pub mod Merging
 pub mod Rewriting
 pub mod WholeTables
 pub mod History
+pub mod WeightShares
+pub mod PickReads
+pub mod Shares

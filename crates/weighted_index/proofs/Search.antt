@@ -20,7 +20,7 @@ pub later : (c x : ℕ) (xs : List ℕ) → x ≤ c → firstAbove c (x ∷ xs) 
 unfolding firstAbove
 later c x xs h = rw (le-ltb c x h, firstAbove)
 
-nowhere : (c : ℕ) → firstAbove c [] ≡ 0
+pub nowhere : (c : ℕ) → firstAbove c [] ≡ 0
 unfolding firstAbove
 nowhere c = refl
 

@@ -49,7 +49,7 @@ returns-4 : tie.Need-returns-4
 returns-4 c =
     let a = c .before .before .before .before .before .before .before .before .args in
     let alive = sym (c .before .before .before .before .before .before .is-zero .ensures) ∙ c .before .before .before .before .before .if1 .left in
-    c .sample-whole .ensures ∙ sym (goes (a .rng) (a .table) (now (a .cumulative-weights)) (a .budget) alive (c .before .before .before .if2 .left) (sym (c .before .before .is-broken .ensures) ∙ c .before .if3 .left))
+    rw (c .sample-whole .ensures) (sym (goes (a .rng) (a .table) (now (a .cumulative-weights)) (a .budget) alive (c .before .before .before .if2 .left) (sym (c .before .before .is-broken .ensures) ∙ c .before .if3 .left)))
 
 pub sample-spec : {M : Type 1} → statement M
 sample-spec =
