@@ -3,8 +3,10 @@ ghost use mathlib.Core.Path.{_≡_};
 use refusal::Refusal;
 use xoshiro256plusplus::Xoshiro256PlusPlus;
 
-// The most weights that a list or a table may have, and the most that they may add up to.
+// A list or a table has at most so many weights: the definition `mostWeights`.
 pub(crate) const MOST_WEIGHTS: u64 = 0xffff_fffe;
+
+// They add up to at most so much: the definition `mostTotal`.
 pub(crate) const MOST_TOTAL: u64 = 0xffff_ffff;
 
 // A table's record: how many weights it has, and what they add up to. Its running sums are in a slice that the caller lends with it.

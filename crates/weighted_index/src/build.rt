@@ -6,12 +6,12 @@ ghost use Rattle.weighted_index.specs.Weights.{mostWeights, mostTotal, t
 ghost use Rattle.weighted_index.specs.Tables.{heldSums};
 ghost use Rattle.weighted_index.specs.Answers.{ended};
 ghost use Rattle.weighted_index.specs.New.{newOf};
-use refusal::Refusal;
 use super::answer::MOST_TOTAL;
 use super::answer::MOST_WEIGHTS;
 use super::answer::Outcome;
 use super::answer::accepted;
 use super::answer::refused;
+use refusal::Refusal;
 
 // All weights added: 64 bits hold the sum of as many as a table may have.
 fn sum(weights: &[u32]) -> u64

@@ -5,7 +5,6 @@ ghost use lib.ListN.{length};
 ghost use Rattle.weighted_index.specs.Tables.{brokenTable, heldWeights, heldSums};
 ghost use Rattle.weighted_index.specs.Answers.{ended};
 ghost use Rattle.weighted_index.specs.Change.{replaced, Rewritable, answerOfChecked, checkOf, updateOf};
-use refusal::Refusal;
 use super::answer::MOST_TOTAL;
 use super::answer::MOST_WEIGHTS;
 use super::answer::Outcome;
@@ -14,6 +13,7 @@ use super::answer::accepted;
 use super::answer::refused;
 use super::table::is_broken;
 use super::table::weight_at;
+use refusal::Refusal;
 
 // What the checks of a change's items end in: the new total, or why the change is refused. The definition `answerOfChecked` gives the
 // number and the values of each case.
@@ -61,12 +61,7 @@ fn check_items(
 
 // Writes the sums of the changed weights over the old ones, from the first place on. The old weight at i is the old sum there less the one
 // before it, which has been written over: `before` keeps it.
-fn rewrite(
-    table: WeightedIndex,
-    cumulative_weights: &mut [u32],
-    places: &[u64],
-    weights: &[u32],
-)
+fn rewrite(table: WeightedIndex, cumulative_weights: &mut [u32], places: &[u64], weights: &[u32])
     requires { ⌜ Rewritable table (now «cumulative_weights») (now places) (now weights) ⌝ }
     ensures { λ _. ⌜ now («cumulative_weights» .exit) ≡ heldSums (replaced (heldWeights table (now («cumulative_weights» .entry))) (now (places .entry)) (now (weights .entry))) (now («cumulative_weights» .entry)) ⌝ }
 {
