@@ -1,0 +1,41 @@
+-- Demand 3, proved: each field by the theorem of the crate that its definitions are from.
+-- Assumes nothing.
+use mathlib.Core.Path.{_≡_, sym, _∙_}
+use mathlib.Core.List.{List}
+use Prim.Native.Nat.{ℕ, _-_, _^_, _<_}
+use native.Mathlib.Omega.{arith}
+use lib.ListN.{length}
+use Rattle.counting.specs.Lists.{Distinct}
+use Rattle.uniform_int.proofs.Shares.{draw-shares-32}
+use Rattle.index.proofs.Shares.{index-shares}
+use Rattle.slice.specs.Shuffle.{shuffleShare}
+use Rattle.slice.specs.Shares.{OrderedTail}
+use Rattle.slice.proofs.Shares.{shuffle-shares}
+use Rattle.iterator.proofs.Shares.{reservoir-shares}
+use Rattle.weighted_index.proofs.History.{history-claim}
+use Rattle.weighted_index.proofs.Shares.{pick-shares-32}
+use Rattle.shares.specs.EqualShares.{rejectionShare, tailShare, EqualShares}
+
+-- the share of a tail, which the number of items and the amount settle
+number : (amount : ℕ) (items tail : List ℕ) → Distinct items → OrderedTail (length items - amount) items tail
+    → tailShare amount items tail ≡ shuffleShare (length items - amount) (length items)
+unfolding tailShare
+number amount items tail distinct ordered = shuffle-shares .shuffle (length items - amount) items tail (omega arith) distinct ordered
+
+some : (amount : ℕ) (items tail : List ℕ) → Distinct items → OrderedTail (length items - amount) items tail → 0 < tailShare amount items tail
+some amount items tail distinct ordered = rw (number amount items tail distinct ordered) (shuffle-shares .some (length items - amount) (length items))
+
+pub equal-shares : EqualShares
+unfolding rejectionShare
+equal-shares =
+    record {
+      floyd = index-shares .floyd;
+      in-place = index-shares .in-place;
+      rejection = index-shares .rejection;
+      shuffle = λ amount items one other distinct p q. number amount items one distinct p ∙ sym (number amount items other distinct q);
+      shuffle-some = some;
+      reservoir = reservoir-shares .reservoir;
+      history = history-claim .history;
+      pick = pick-shares-32 .share;
+      draw = draw-shares-32 .bounded;
+    }

@@ -1,0 +1,59 @@
+-- Demand 3: no ordered sample, shuffle, reservoir or weighted pick has more or less than its share. One field for each of its sentences, in
+-- their order, over the definitions that the calls' contracts cite. A share is the number of lists of draws, or of words, that give a result:
+-- `countLists p bounds` counts the lists with an entry below each bound that pass the test p, and `count` and `countPairs` count numbers and pairs.
+use mathlib.Core.Path.{_≡_}
+use mathlib.Core.Logic.{_⊎_}
+use mathlib.Core.List.{List}
+use Prim.Native.Nat.{ℕ, _+_, _-_, _*_, _/_, _^_, _≤_, _<_}
+use lib.ListN.{length, take, drop, getD, replicate}
+use Rattle.counting.specs.Count.{countLists, factorial}
+use Rattle.counting.specs.Lists.{same, sameSet, Distinct}
+use Rattle.uniform_int.specs.Shares.{boundedShare}
+use Rattle.index.specs.Floyd.{floydOf, floydBounds}
+use Rattle.index.specs.InPlace.{arranged, falling}
+use Rattle.index.specs.Rejection.{rejectionOf, gives}
+use Rattle.index.specs.Shares.{SampleOf}
+use Rattle.slice.specs.Shuffle.{shuffleOf, shuffleBounds}
+use Rattle.slice.specs.Shares.{OrderedTail}
+use Rattle.iterator.specs.Reservoir.{fillOf, fillBounds}
+use Rattle.iterator.specs.Shares.{SetOf}
+use Rattle.weighted_index.specs.Weights.{total}
+use Rattle.weighted_index.specs.History.{Change, History, plainWeights, callsRun, plainRun}
+use Rattle.weighted_index.specs.Shares.{pickShare}
+use Rattle.weighted_index.specs.declared.answer.WeightedIndex.{WeightedIndex}
+
+-- how many lists of m draws below n give rejection the sample
+unfoldable pub rejectionShare : (n amount m : ℕ) → List ℕ → ℕ
+rejectionShare n amount m sample = countLists (λ ds. gives (rejectionOf amount ds) sample) (replicate m n)
+
+-- how many lists of chunk values leave a partial shuffle of so many of the items with this tail
+unfoldable pub tailShare : (amount : ℕ) (items : List ℕ) → List ℕ → ℕ
+tailShare amount items tail =
+    countLists (λ cs. same (drop (length items - amount) (shuffleOf (length items - amount) items cs)) tail) (shuffleBounds (length items - amount) (length items))
+
+pub record EqualShares : Type 0 where
+  -- Floyd's method gives every ordered list of amount distinct indices below n from exactly one list of bounded draws,
+  pub floyd : (n amount : ℕ) (sample : List ℕ) → amount ≤ n → SampleOf n amount sample
+      → countLists (λ ds. same (floydOf n amount ds) sample) (floydBounds n amount) ≡ 1
+  -- and so does the method in place.
+  pub in-place : (n amount : ℕ) (sample : List ℕ) → amount ≤ n → SampleOf n amount sample
+      → countLists (λ ds. same (take amount (arranged n ds)) sample) (falling n amount) ≡ 1
+  -- For every m, rejection gives each of them from equally many lists of m draws.
+  pub rejection : (n amount m : ℕ) (one other : List ℕ) → SampleOf n amount one → SampleOf n amount other
+      → rejectionShare n amount m one ≡ rejectionShare n amount m other
+  -- A partial shuffle of distinct items gives each ordered tail from equally many lists of chunk values,
+  pub shuffle : (amount : ℕ) (items one other : List ℕ) → Distinct items → OrderedTail (length items - amount) items one
+      → OrderedTail (length items - amount) items other → tailShare amount items one ≡ tailShare amount items other
+  -- never from none, whatever its amount.
+  pub shuffle-some : (amount : ℕ) (items tail : List ℕ) → Distinct items → OrderedTail (length items - amount) items tail → 0 < tailShare amount items tail
+  -- A reservoir of a from N ≥ a distinct items (a slots, whatever they held) ends as each set of a of them from exactly (N - a)! lists of draws.
+  pub reservoir : (slots items chosen : List ℕ) → length slots ≤ length items → Distinct items → SetOf (length slots) items chosen
+      → countLists (λ ks. sameSet (fillOf slots items ks) chosen) (fillBounds (length slots) (length items)) ≡ factorial (length items - length slots)
+  -- For every list of change calls, refused ones included, from an accepted new table, the answers and the table are those of the plain list.
+  pub history : (weights slice : List ℕ) (table : WeightedIndex) (sums : List ℕ) (changes : List Change) → History weights slice table sums changes
+      → callsRun table sums changes ≡ plainRun weights slice changes
+  -- After it an item of weight w on the plain list is picked by exactly w times floor (2 ^ 32 / total) of the 2 ^ 32 words.
+  pub pick : (weights slice : List ℕ) (table : WeightedIndex) (sums : List ℕ) (changes : List Change) (item : ℕ) → History weights slice table sums changes
+      → pickShare (2 ^ 32) table sums changes item ≡ getD (plainWeights weights changes) item 0 * (2 ^ 32 / total (plainWeights weights changes))
+  -- A bounded draw below r gives each value to floor (2 ^ 64 / r) pairs of words, or to one more.
+  pub draw : (r value : ℕ) → 0 < r → value < r → (boundedShare (2 ^ 32) r value ≡ 2 ^ 64 / r) ⊎ (boundedShare (2 ^ 32) r value ≡ 2 ^ 64 / r + 1)

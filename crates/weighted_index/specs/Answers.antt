@@ -1,0 +1,60 @@
+-- What the calls on tables answer, as their promises state it.
+use mathlib.Core.List.{List, [], _∷_}
+use Prim.Native.Nat.{ℕ}
+use Rattle.refusal.specs.Answer.{Answer, done, declined}
+use Rattle.refusal.specs.declared.Refusal.{Refusal}
+use Rattle.uniform_int.specs.Rejecting.{Drawing}
+use Rattle.weighted_index.specs.declared.answer.Made.{Made}
+use Rattle.weighted_index.specs.declared.answer.Made.the-variants as made
+use Rattle.weighted_index.specs.declared.answer.Outcome.{Outcome}
+use Rattle.weighted_index.specs.declared.answer.Looked.{Looked}
+use Rattle.weighted_index.specs.declared.answer.Looked.the-variants as looked
+use Rattle.weighted_index.specs.declared.answer.Lookup.{Lookup}
+use Rattle.weighted_index.specs.declared.answer.Choice.{Choice}
+use Rattle.weighted_index.specs.declared.answer.Choice.the-variants as choice
+use Rattle.weighted_index.specs.declared.answer.Picked.{Picked}
+
+-- ---- the number and the values of each case of an answer
+
+-- a table by its count and its total
+abbrev pub answerOfMade : Made → Answer
+answerOfMade (made.Table t) = done (t .count ∷ t .«total_weight» ∷ [])
+answerOfMade (made.Refused why) = declined why
+
+-- a weight, or no value where there is none at that place
+abbrev pub answerOfLooked : Looked → Answer
+answerOfLooked (looked.Weight w) = done (w ∷ [])
+answerOfLooked looked.Nothing = done []
+answerOfLooked (looked.Refused why) = declined why
+
+-- an item by its index
+abbrev pub answerOfChoice : Choice → Answer
+answerOfChoice (choice.Item i) = done (i ∷ [])
+answerOfChoice (choice.Refused why) = declined why
+
+-- ---- all that can be seen after a call
+
+-- of a lookup, or of a change as a caller without the sums sees it
+pub record Reply : Type 0 where
+  pub answer : Answer
+  pub words : ℕ
+
+abbrev pub replied : Lookup → Reply
+replied r = record { answer = answerOfLooked (r .answer); words = r .words }
+
+-- of a new table or a change
+pub record Making : Type 0 where
+  pub answer : Answer
+  pub words : ℕ
+  pub sums : List ℕ
+
+abbrev pub ended : Outcome → List ℕ → Making
+ended r sums = record { answer = answerOfMade (r .answer); words = r .words; sums = sums }
+
+-- of a pick
+abbrev pub picked : Picked → Drawing
+picked r = record { answer = answerOfChoice (r .answer); words = r .words; rng = r .rng }
+
+-- a refusal reads no word and changes no sum
+unfoldable pub refuses : Refusal → List ℕ → Making
+refuses why sums = record { answer = declined why; words = 0; sums = sums }

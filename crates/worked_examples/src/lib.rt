@@ -1,0 +1,2 @@
+// The worked examples stand in specs/ and are proved in proofs/. A crate has at least one function: this one does nothing.
+pub fn nothing() {}
