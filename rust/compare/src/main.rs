@@ -7,7 +7,11 @@ mod arguments;
 mod fill;
 mod inputs;
 mod kind;
+#[cfg(test)]
+mod listed;
 mod long_run;
+#[cfg(test)]
+mod longest;
 mod program;
 mod sample;
 mod seeding;

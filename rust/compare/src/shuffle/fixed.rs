@@ -112,9 +112,9 @@ mod tests {
     use super::{chunk_ends, last_starts};
 
     #[test]
-    fn chunks_end_where_document_01_has_them() {
+    fn chunks_of_11_and_7_follow_the_first_index() {
         let ends: Vec<usize> = chunk_ends().take(3).collect();
-        assert_eq!(ends, [1, 12, 20]);
+        assert_eq!(ends, [1, 12, 19]);
         assert_eq!(last_starts().last(), Some(&65_534));
     }
 }

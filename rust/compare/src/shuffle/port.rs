@@ -42,3 +42,50 @@ fn ended(
         Err(refusal) => (Ended::refused(refusal.number().into(), state), None),
     }
 }
+
+#[cfg(test)]
+mod tests {
+    use reference::call::joined;
+    use reference::shuffle_line::{partially_shuffled, wholly_shuffled};
+    use reference::shuffling::{Shuffling, Whole};
+
+    use super::{partial_shuffle, shuffle};
+    use crate::listed::lines;
+
+    #[test]
+    fn the_port_gives_the_partial_shuffles_of_the_list() {
+        let lines = lines("partial_shuffle");
+        assert!(lines.len() > 50, "{} in the list", lines.len());
+        for listed in lines {
+            let [len, amount, at] = listed.numbers[..] else {
+                panic!("seven numbers: {}", listed.line);
+            };
+            let call = Shuffling {
+                from: listed.from,
+                len: len as usize,
+                amount,
+            };
+            let port = partially_shuffled(&call, at, |items| {
+                partial_shuffle(call.from, amount, items).0
+            });
+            assert_eq!(joined(&port), listed.answer, "{}", listed.line);
+        }
+    }
+
+    #[test]
+    fn the_port_gives_the_shuffles_of_the_list() {
+        let lines = lines("shuffle");
+        assert!(lines.len() > 10, "{} in the list", lines.len());
+        for listed in lines {
+            let [len] = listed.numbers[..] else {
+                panic!("five numbers: {}", listed.line);
+            };
+            let call = Whole {
+                from: listed.from,
+                len: len as usize,
+            };
+            let port = wholly_shuffled(&call, |items| shuffle(call.from, items).0);
+            assert_eq!(joined(&port), listed.answer, "{}", listed.line);
+        }
+    }
+}
