@@ -55,6 +55,48 @@ void gapyndura_seed_from_u64(uint64_t seed, uint64_t state[4]);
 uint32_t gapyndura_sample(uint64_t state[4], uint64_t length, uint64_t amount, uint64_t budget,
                           uint32_t *indices, size_t indices_len, uint32_t *scratch, size_t scratch_len, uint64_t out[2]);
 
+/* Shuffles amount of the len items to the end of the slice: n = len - amount, or 0 where amount is above len, is the place where
+ * that tail starts. The items before n are the others, in an order that is not shuffled. A caller has both parts by n and the
+ * slice: the tail is items + n, len - n entries; the head is items, n entries.
+ *
+ * Answers 0 where the shuffle is done, else the number of the first cause here that applies:
+ *   12  all four words of state are 0: that is no generator
+ *   10  len is above 2^32 - 2
+ *
+ * On every answer:
+ *   state    is the generator after the words read;
+ *   out[0]   is the words read: 0 on a refusal;
+ *   out[1]   is n on 0, and 0 on a refusal;
+ *   items    has the same entries as before: rearranged on 0, unchanged on a refusal.
+ *
+ * A refusal reads nothing and changes nothing. No pointer is null, items neither where len is 0. */
+uint32_t gapyndura_partial_shuffle(uint64_t state[4], uint32_t *items, size_t len, uint64_t amount, uint64_t out[2]);
+
+/* Shuffles all of the len items: gapyndura_partial_shuffle with len as the amount. Fewer than two items are left as they are, and
+ * no word is read for them.
+ *
+ * Answers 0, 12 or 10, and writes state, out and items, as gapyndura_partial_shuffle does; so out[1], which is n, is 0 on every
+ * answer. A refusal reads nothing and changes nothing. No pointer is null, items neither where len is 0. */
+uint32_t gapyndura_shuffle(uint64_t state[4], uint32_t *items, size_t len, uint64_t out[2]);
+
+/* Fills buf with a sample of as many items as it has entries, or with all items where they are fewer. The order in buf is neither
+ * that of the items nor random. Words are read for each item past buf_len, also where buf_len is 0; for fewer items none is read.
+ *
+ * Answers 0 where buf is filled, else the number of the first cause here that applies:
+ *   12  all four words of state are 0: that is no generator
+ *   10  items_len is above 2^32 - 2; buf_len may be any
+ *
+ * On every answer:
+ *   state    is the generator after the words read;
+ *   out[0]   is the words read: 0 on a refusal;
+ *   out[1]   is the count of entries of buf that are filled: the lesser of items_len and buf_len on 0, and 0 on a refusal;
+ *   buf      has out[1] items at its front, and is unchanged behind them.
+ *
+ * A refusal reads nothing and changes nothing. No pointer is null, items neither where items_len is 0, nor buf where buf_len
+ * is 0. */
+uint32_t gapyndura_sample_fill(uint64_t state[4], const uint32_t *items, size_t items_len,
+                               uint32_t *buf, size_t buf_len, uint64_t out[2]);
+
 #ifdef __cplusplus
 }
 #endif

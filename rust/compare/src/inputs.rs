@@ -2,7 +2,7 @@
 
 use rand::rngs::Xoshiro256PlusPlus;
 use rand::{Rng, RngExt, SeedableRng};
-use reference::State;
+use reference::{State, state};
 
 /// Random numbers, by rand's own generator: an error in the port cannot choose what the port is tried on.
 pub struct Source(Xoshiro256PlusPlus);
@@ -44,10 +44,24 @@ impl Source {
         if state == [0; 4] { self.state() } else { state }
     }
 
+    /// The same; and now and then four zeros, which are no generator.
+    pub fn state_or_zero(&mut self) -> State {
+        if self.below(256) == 0 {
+            [0; 4]
+        } else {
+            self.state()
+        }
+    }
+
     /// One of these.
     pub fn one_of<T: Copy>(&mut self, choices: &[T]) -> T {
         choices[self.below(choices.len() as u32) as usize]
     }
+}
+
+/// The state of one of rand's generators, as good as any other.
+pub fn some_state(number: u64) -> State {
+    state(&Xoshiro256PlusPlus::seed_from_u64(number))
 }
 
 /// 0, the powers of two of 64 bits, their neighbours, and the largest number.

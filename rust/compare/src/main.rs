@@ -4,11 +4,19 @@
 //! have no function there are made by the Rattle program of module [`program`].
 
 mod arguments;
+mod fill;
 mod inputs;
 mod kind;
+#[cfg(test)]
+mod listed;
+mod long_run;
+#[cfg(test)]
+mod longest;
 mod program;
 mod sample;
 mod seeding;
+mod shuffle;
+mod slices;
 
 use std::env;
 use std::process::ExitCode;
@@ -19,12 +27,16 @@ use program::Program;
 use reference::call::Name;
 
 /// The kinds of call at the C boundary, in the order in which they are run.
-const KINDS: [Entry; 5] = [
+const KINDS: [Entry; 9] = [
     Entry::of::<seeding::FromSeed>(),
     Entry::of::<seeding::SeedFromU64>(),
     Entry::of::<sample::Sample>(),
     Entry::of::<sample::run::Run>(),
     Entry::of::<sample::choice::Choice>(),
+    Entry::of::<shuffle::PartialShuffle>(),
+    Entry::of::<shuffle::Shuffle>(),
+    Entry::of::<fill::SampleFill>(),
+    Entry::of::<long_run::LongRun>(),
 ];
 
 fn main() -> ExitCode {

@@ -19,4 +19,25 @@ unsafe extern "C" {
         scratch_len: usize,
         out: &mut [u64; 2],
     ) -> u32;
+    pub fn gapyndura_partial_shuffle(
+        state: &mut [u64; 4],
+        items: *mut u32,
+        len: usize,
+        amount: u64,
+        out: &mut [u64; 2],
+    ) -> u32;
+    pub fn gapyndura_shuffle(
+        state: &mut [u64; 4],
+        items: *mut u32,
+        len: usize,
+        out: &mut [u64; 2],
+    ) -> u32;
+    pub fn gapyndura_sample_fill(
+        state: &mut [u64; 4],
+        items: *const u32,
+        items_len: usize,
+        buf: *mut u32,
+        buf_len: usize,
+        out: &mut [u64; 2],
+    ) -> u32;
 }

@@ -19,7 +19,9 @@
 
 mod boundary;
 pub mod index;
+pub mod iterator;
 mod refusal;
+pub mod slice;
 mod xoshiro256plusplus;
 
 pub use refusal::Refusal;

@@ -69,6 +69,14 @@ impl Refusal {
     pub(crate) fn from_number(number: u32) -> Self {
         ALL[number as usize - 1]
     }
+
+    /// What a function of the header answers where a refusal does nothing: the call is carried out, or declined for a cause.
+    pub(crate) fn check(number: u32) -> Result<(), Self> {
+        match number {
+            0 => Ok(()),
+            _ => Err(Self::from_number(number)),
+        }
+    }
 }
 
 impl fmt::Display for Refusal {

@@ -4,6 +4,7 @@
 
 mod contents;
 mod samples;
+mod shuffles;
 
 use std::env;
 use std::fs;

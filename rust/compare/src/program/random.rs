@@ -2,13 +2,17 @@
 
 use reference::State;
 use reference::call::{Call, LONGEST_SLICE, Name, Reading};
+use reference::filling::Filling;
 use reference::sampling::Sampling;
+use reference::shuffling::{Shuffling, Whole};
 use reference::words::{bounded, giving, rejecting};
 
+use crate::fill::SampleFill;
 use crate::inputs::Source;
 use crate::kind::Kind;
 use crate::sample::Sample;
 use crate::seeding::{FromSeed, SeedFromU64};
+use crate::shuffle::{PartialShuffle, Shuffle};
 
 /// The most readings of one line.
 const READINGS: u32 = 32;
@@ -19,6 +23,9 @@ pub fn call(name: Name, source: &mut Source, most: u64) -> Call {
         Name::SeedFromU64 => return Call::SeedFromU64(SeedFromU64::random(source)),
         Name::FromSeed => return Call::FromSeed(FromSeed::random(source)),
         Name::Sample => return Call::Sample(sample(source)),
+        Name::PartialShuffle => return partial_shuffle(source),
+        Name::Shuffle => return Call::Shuffle(shuffle(source)),
+        Name::SampleFill => return Call::SampleFill(fill(source)),
         Name::NextU64 => Reading::NextU64,
         Name::NextU32 => Reading::NextU32,
         Name::RandomRange => Reading::RandomRange { r: bound(source) },
@@ -48,6 +55,41 @@ fn sample(source: &mut Source) -> Sampling {
     Sampling {
         indices_len: call.indices_len.min(LONGEST_SLICE),
         scratch_len: call.scratch_len.min(LONGEST_SLICE),
+        ..call
+    }
+}
+
+/// A partial shuffle for which the program has room, and a place: mostly the one where its tail starts, or one near it.
+fn partial_shuffle(source: &mut Source) -> Call {
+    let call = PartialShuffle::random(source);
+    let len = call.len.min(LONGEST_SLICE);
+    let shuffling = Shuffling { len, ..call };
+    let n = (len as u64).saturating_sub(shuffling.amount);
+    let at = match source.below(8) {
+        0 => source.u64(),
+        1 => source.u64() % (len as u64 + 2),
+        2 => n + 1,
+        3 => n.saturating_sub(1),
+        _ => n,
+    };
+    Call::PartialShuffle { shuffling, at }
+}
+
+/// A shuffle for which the program has room.
+fn shuffle(source: &mut Source) -> Whole {
+    let call = Shuffle::random(source);
+    Whole {
+        len: call.len.min(LONGEST_SLICE),
+        ..call
+    }
+}
+
+/// A fill for which the program has room.
+fn fill(source: &mut Source) -> Filling {
+    let call = SampleFill::random(source);
+    Filling {
+        items_len: call.items_len.min(LONGEST_SLICE),
+        buf_len: call.buf_len.min(LONGEST_SLICE),
         ..call
     }
 }

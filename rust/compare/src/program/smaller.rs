@@ -3,10 +3,12 @@
 use reference::State;
 use reference::call::{Call, Reading};
 
+use crate::fill::SampleFill;
 use crate::inputs::{smaller, smaller_states};
 use crate::kind::Kind;
 use crate::sample::Sample;
 use crate::seeding::{FromSeed, SeedFromU64};
+use crate::shuffle::{PartialShuffle, Shuffle};
 
 /// The lines that are one step smaller than this one.
 pub fn than(call: &Call) -> Vec<Call> {
@@ -14,6 +16,18 @@ pub fn than(call: &Call) -> Vec<Call> {
         Call::SeedFromU64(seed) => each(SeedFromU64::smaller(&seed), Call::SeedFromU64),
         Call::FromSeed(seed) => each(FromSeed::smaller(&seed), Call::FromSeed),
         Call::Sample(ref call) => each(Sample::smaller(call), Call::Sample),
+        Call::Shuffle(ref call) => each(Shuffle::smaller(call), Call::Shuffle),
+        Call::SampleFill(ref call) => each(SampleFill::smaller(call), Call::SampleFill),
+        Call::PartialShuffle { ref shuffling, at } => {
+            let mut calls = each(PartialShuffle::smaller(shuffling), |shuffling| {
+                Call::PartialShuffle { shuffling, at }
+            });
+            calls.extend(smaller(at).map(|at| Call::PartialShuffle {
+                shuffling: shuffling.clone(),
+                at,
+            }));
+            calls
+        }
         Call::Read {
             reading,
             from,

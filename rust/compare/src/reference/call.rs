@@ -9,9 +9,14 @@ use rand::rngs::Xoshiro256PlusPlus;
 use rand::{Rng, SeedableRng};
 
 use crate::draws::{Draws, RAND, within};
+use crate::filling::{Filling, sample_fill};
 use crate::methods::{draw, due};
 use crate::sample_line::{numbers, sampled};
 use crate::sampling::{Drawing, Sampling};
+use crate::shuffle_line::{
+    fill_numbers, filled, partial_numbers, partially_shuffled, whole_numbers, wholly_shuffled,
+};
+use crate::shuffling::{Shuffling, Whole, partial_shuffle, shuffle};
 use crate::{State, from_state, state};
 
 /// The size that no list reaches, in bytes: the Rattle program that is given it has room for 262,144.
@@ -31,11 +36,14 @@ pub enum Name {
     RandomRangeWithin,
     UniformInt,
     Sample,
+    PartialShuffle,
+    Shuffle,
+    SampleFill,
 }
 
 impl Name {
     /// All of them, in their order.
-    pub const ALL: [Self; 8] = [
+    pub const ALL: [Self; 11] = [
         Self::SeedFromU64,
         Self::FromSeed,
         Self::NextU64,
@@ -44,6 +52,9 @@ impl Name {
         Self::RandomRangeWithin,
         Self::UniformInt,
         Self::Sample,
+        Self::PartialShuffle,
+        Self::Shuffle,
+        Self::SampleFill,
     ];
 }
 
@@ -58,6 +69,9 @@ impl fmt::Display for Name {
             Self::RandomRangeWithin => "random_range_within",
             Self::UniformInt => "uniform_int",
             Self::Sample => "sample",
+            Self::PartialShuffle => "partial_shuffle",
+            Self::Shuffle => "shuffle",
+            Self::SampleFill => "sample_fill",
         })
     }
 }
@@ -136,6 +150,15 @@ pub enum Call {
     /// and the words read; then the first 20 entries of the indices' slice, or all where they are fewer, its hash, and the hash
     /// of the scratch slice.
     Sample(Sampling),
+    /// A partial shuffle of the numbers 0, 1 and so on, and a place. The answer is its number, the place n where the tail starts
+    /// and the words read; then the first 20 entries, or all where they are fewer, the hash of all, and the length and the
+    /// hash of the part from the given place on and of the part before it.
+    PartialShuffle { shuffling: Shuffling, at: u64 },
+    /// A shuffle of these numbers. The answer is the same without the parts.
+    Shuffle(Whole),
+    /// A fill from these numbers, with a buffer filled with 4294967295. The answer is its number, the count of slots filled and the
+    /// words read; then the first 20 entries of the buffer, or all where they are fewer, and the hash of all.
+    SampleFill(Filling),
 }
 
 impl Call {
@@ -147,6 +170,9 @@ impl Call {
             Self::FromSeed(_) => Name::FromSeed,
             Self::Read { reading, .. } => reading.name(),
             Self::Sample(_) => Name::Sample,
+            Self::PartialShuffle { .. } => Name::PartialShuffle,
+            Self::Shuffle(_) => Name::Shuffle,
+            Self::SampleFill(_) => Name::SampleFill,
         }
     }
 
@@ -154,8 +180,8 @@ impl Call {
     #[must_use]
     pub fn calls(&self) -> u64 {
         match *self {
-            Self::SeedFromU64(_) | Self::FromSeed(_) | Self::Sample(_) => 1,
             Self::Read { count, .. } => count,
+            _ => 1,
         }
     }
 
@@ -170,21 +196,35 @@ impl Call {
                 count,
             } => [&from[..], &reading.numbers(), &[count]].concat(),
             Self::Sample(ref sampling) => numbers(sampling),
+            Self::PartialShuffle { ref shuffling, at } => partial_numbers(shuffling, at),
+            Self::Shuffle(ref whole) => whole_numbers(whole),
+            Self::SampleFill(ref filling) => fill_numbers(filling),
         }
     }
 
     /// rand's answer.
     #[must_use]
     pub fn answer(&self) -> Vec<u64> {
-        match self {
-            Self::Sample(sampling) => {
+        match *self {
+            Self::Sample(ref sampling) => {
                 sampled(sampling, |indices, scratch| sampling.end(indices, scratch))
+            }
+            Self::PartialShuffle { ref shuffling, at } => {
+                partially_shuffled(shuffling, at, |items| {
+                    partial_shuffle(shuffling.from, shuffling.amount, items).0
+                })
+            }
+            Self::Shuffle(ref whole) => {
+                wholly_shuffled(whole, |items| shuffle(whole.from, items).0)
+            }
+            Self::SampleFill(ref filling) => {
+                filled(filling, |items, buf| sample_fill(filling.from, items, buf))
             }
             _ => self.answer_by(&RAND),
         }
     }
 
-    /// The answer of rand's generator with these draws in place of rand's.
+    /// The answer of rand's generator with these draws in place of rand's. Shuffles and fills keep rand's own.
     #[must_use]
     pub fn answer_by(&self, draws: &Draws) -> Vec<u64> {
         let (mut numbers, after) = match *self {
@@ -205,6 +245,9 @@ impl Call {
                 return sampled(sampling, |indices, scratch| {
                     sampling.end_by(drawing, indices, scratch)
                 });
+            }
+            Self::PartialShuffle { .. } | Self::Shuffle(_) | Self::SampleFill(_) => {
+                return self.answer();
             }
         };
         numbers.extend(state(&after));

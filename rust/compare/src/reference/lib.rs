@@ -4,10 +4,14 @@
 
 pub mod call;
 pub mod draws;
+pub mod filling;
+mod hash;
 pub mod methods;
 pub mod panics;
 pub mod sample_line;
 pub mod sampling;
+pub mod shuffle_line;
+pub mod shuffling;
 pub mod words;
 
 use std::convert::Infallible;
@@ -15,6 +19,8 @@ use std::fmt::{self, Write};
 
 use rand::rngs::Xoshiro256PlusPlus;
 use rand::{SeedableRng, TryRng};
+
+pub use hash::hash;
 
 /// The four words of a generator's state.
 pub type State = [u64; 4];
@@ -115,6 +121,18 @@ impl Counting {
     pub fn into_inner(self) -> Xoshiro256PlusPlus {
         self.rng
     }
+}
+
+/// What `call` gives from the generator of this state, the words that it reads, and the state afterwards.
+///
+/// # Panics
+///
+/// If all four words are 0.
+pub fn counted<T>(from: State, call: impl FnOnce(&mut Counting) -> T) -> (T, u64, State) {
+    let mut counting = Counting::new(from_state(from));
+    let answer = call(&mut counting);
+    let words = counting.words();
+    (answer, words, state(&counting.into_inner()))
 }
 
 impl TryRng for Counting {

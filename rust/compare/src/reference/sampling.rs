@@ -14,8 +14,8 @@ use crate::{State, from_state, state};
 const AMOUNT_EXCEEDS_LENGTH: u64 = 1;
 const SLICE_TOO_SHORT: u64 = 8;
 const SCRATCH_TOO_SHORT: u64 = 9;
-const TOO_LONG: u64 = 10;
-const ZERO_STATE: u64 = 12;
+pub(crate) const TOO_LONG: u64 = 10;
+pub(crate) const ZERO_STATE: u64 = 12;
 
 /// What `sample` is given, but for the entries of its two slices.
 #[derive(Clone, Debug, PartialEq, Eq)]
@@ -28,13 +28,27 @@ pub struct Sampling {
     pub scratch_len: usize,
 }
 
-/// How a call ends: the answer, the count of indices written, the words read, and the state afterwards.
+/// How a call ends: the answer, the count of indices written, the words read, and the state afterwards. In place of the count a
+/// shuffle has the place n where its tail starts, and a fill the count of slots filled.
 #[derive(Clone, Debug, PartialEq, Eq)]
 pub struct Ended {
     pub number: u64,
     pub count: u64,
     pub words: u64,
     pub state: State,
+}
+
+impl Ended {
+    /// A refusal that has read nothing and changed nothing.
+    #[must_use]
+    pub fn refused(number: u64, from: State) -> Self {
+        Self {
+            number,
+            count: 0,
+            words: 0,
+            state: from,
+        }
+    }
 }
 
 /// A way to draw a sample below a length: rand's, or one with a fault in it.
@@ -103,12 +117,7 @@ impl Sampling {
     /// A refusal that has read nothing and changed nothing.
     #[must_use]
     pub fn refused(&self, number: u64) -> Ended {
-        Ended {
-            number,
-            count: 0,
-            words: 0,
-            state: self.from,
-        }
+        Ended::refused(number, self.from)
     }
 
     /// The end where the budget is used up. rand knows none: these are the indices of its sample that it has drawn when it

@@ -9,9 +9,9 @@ use rand::SeedableRng;
 use rand::rngs::Xoshiro256PlusPlus as Rand;
 use reference::methods::{Method, due, seen};
 
-use super::slices::without_memory;
 use crate::inputs::{Source, smaller};
 use crate::kind::Kind;
+use crate::slices::without_memory;
 
 /// To this length rand's choice is always seen in its sample. That takes the length's time and memory.
 const SEEN: u32 = 20_000;

@@ -1,10 +1,10 @@
 //! The samples that every run tries: small ones without gap, and those at the bounds of the rules.
 
-use rand::SeedableRng;
-use rand::rngs::Xoshiro256PlusPlus;
 use reference::methods::{Method, by_rand, due};
 use reference::sampling::Sampling;
-use reference::{State, from_state, state};
+use reference::{State, from_state};
+
+use crate::inputs::some_state;
 
 /// Every amount is tried at every length to this one, from so many generators.
 const SMALL: u64 = 40;
@@ -57,11 +57,6 @@ const UNDER_BUDGETS: [(u64, u64); 4] = [
 
 /// No slice of a refused call is longer.
 const LONGEST: u64 = 60_000;
-
-/// The state of one of rand's generators, as good as any other.
-fn some_state(number: u64) -> State {
-    state(&Xoshiro256PlusPlus::seed_from_u64(number))
-}
 
 /// The scratch slice that a sample needs.
 pub fn scratch_needed(length: u64, amount: u64) -> usize {

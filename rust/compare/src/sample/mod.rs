@@ -7,14 +7,13 @@ mod fixed;
 mod port;
 mod random;
 pub mod run;
-mod slices;
 
 use reference::sampling::{Ended, Sampling};
 
 use crate::inputs::{Source, smaller, smaller_states};
 use crate::kind::Kind;
+use crate::slices::Lent;
 use faults::{FAULTS, Fault};
-use slices::Lent;
 
 /// Calls of `sample`, each from a generator of its own.
 pub struct Sample {

@@ -29,50 +29,31 @@ pub fn end(call: &Sampling, indices: &mut [u32], scratch: &mut [u32]) -> Ended {
 
 #[cfg(test)]
 mod tests {
-    use std::fs;
-
     use reference::call::joined;
     use reference::sample_line::sampled;
     use reference::sampling::Sampling;
 
     use super::end;
+    use crate::listed::lines;
 
-    /// The call on a line, if it asks for a sample.
-    fn read(line: &str) -> Option<Sampling> {
-        let numbers = line.strip_prefix("sample ")?.split(' ');
-        let numbers: Vec<u64> = numbers
-            .map(|text| text.parse().expect("a number"))
-            .collect();
-        let (from, rest) = numbers.split_first_chunk().expect("a state");
-        let [length, amount, budget, indices_len, scratch_len] = *rest else {
-            panic!("nine numbers: {line}");
-        };
-        Some(Sampling {
-            from: *from,
-            length,
-            amount,
-            budget,
-            indices_len: indices_len as usize,
-            scratch_len: scratch_len as usize,
-        })
-    }
-
-    /// The list's answers are rand's. The Rattle program is held to them in the gate, and the C boundary here.
     #[test]
     fn the_port_gives_the_answers_of_the_list() {
-        let file = |name| {
-            let path = format!("{}/../../crates/vectors/{name}", env!("CARGO_MANIFEST_DIR"));
-            fs::read_to_string(path).expect("the list is there")
-        };
-        let (calls, answers) = (file("stdin"), file("stdout"));
-        let calls = calls.lines().filter(|line| !line.starts_with('#'));
-        let mut count = 0;
-        for (line, answer) in calls.zip(answers.lines()) {
-            let Some(call) = read(line) else { continue };
+        let lines = lines("sample");
+        assert!(lines.len() > 100, "{} samples in the list", lines.len());
+        for listed in lines {
+            let [length, amount, budget, indices_len, scratch_len] = listed.numbers[..] else {
+                panic!("nine numbers: {}", listed.line);
+            };
+            let call = Sampling {
+                from: listed.from,
+                length,
+                amount,
+                budget,
+                indices_len: indices_len as usize,
+                scratch_len: scratch_len as usize,
+            };
             let port = sampled(&call, |indices, scratch| end(&call, indices, scratch));
-            assert_eq!(joined(&port), answer, "{line}");
-            count += 1;
+            assert_eq!(joined(&port), listed.answer, "{}", listed.line);
         }
-        assert!(count > 100, "{count} samples in the list");
     }
 }

@@ -15,11 +15,7 @@ pub fn call(source: &mut Source) -> Sampling {
     let indices_len = around(source, amount.min(LONGEST));
     let scratch_len = around(source, needed);
     Sampling {
-        from: if source.below(256) == 0 {
-            [0; 4]
-        } else {
-            source.state()
-        },
+        from: source.state_or_zero(),
         length,
         amount,
         budget: budget(source, amount),

@@ -1,7 +1,7 @@
 //! Long runs: one generator carried through many samples, so that a generator left in the wrong place shows in all that follows.
 
 use reference::State;
-use reference::sample_line::hash;
+use reference::hash;
 use reference::sampling::{Ended, Sampling};
 
 use super::{Answer, port, random};

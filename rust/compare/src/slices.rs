@@ -2,7 +2,7 @@
 
 use std::{fmt, ptr, slice};
 
-use reference::sample_line::hash;
+use reference::hash;
 
 /// Entries on either side of a slice. Three, so that the slice is aligned for its entries and for nothing larger.
 const MARGIN: usize = 3;
