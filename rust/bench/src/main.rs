@@ -1,6 +1,9 @@
-//! Measures Gapyndura's samples against rand's, in one run, and prints a table in Markdown.
+//! Measures Gapyndura's calls against rand's, in one run, and prints a table in Markdown.
 
 mod allocation;
+mod fills;
+mod samples;
+mod shuffles;
 mod sides;
 mod table;
 mod timing;
@@ -16,21 +19,37 @@ use timing::Plan;
 #[global_allocator]
 static ALLOCATOR: Counting = Counting;
 
-/// The cases of the table: an amount and a length.
-const CASES: [Case; 9] = [
-    Case::new(12, 351),
-    Case::new(12, 350),
-    Case::new(100, 10_000),
-    Case::new(163, 44_010),
-    Case::new(163, 44_009),
-    Case::new(2000, 500_000),
-    Case::new(2000, 499_999),
-    Case::new(20_000, 1 << 31),
-    Case::new(100_000, u32::MAX),
+/// The cases of the table.
+const CASES: [Case; 16] = [
+    Case::sample(12, 351),
+    Case::sample(12, 350),
+    Case::sample(100, 10_000),
+    Case::sample(163, 44_010),
+    Case::sample(163, 44_009),
+    Case::sample(2000, 500_000),
+    Case::sample(2000, 499_999),
+    Case::sample(20_000, 1 << 31),
+    Case::sample(100_000, u32::MAX),
+    Case::Shuffle { len: 10 },
+    Case::Shuffle { len: 1000 },
+    Case::Shuffle { len: 100_000 },
+    Case::Shuffle { len: 1_000_000 },
+    Case::PartialShuffle {
+        amount: 100,
+        len: 100_000,
+    },
+    Case::Fill {
+        slots: 100,
+        items: 10_000,
+    },
+    Case::Fill {
+        slots: 100,
+        items: 100_000,
+    },
 ];
 
 /// A case that is measured once and apart: the port's filter is too small for it.
-const LARGE: Case = Case::new(1_000_000, u32::MAX);
+const LARGE: Case = Case::sample(1_000_000, u32::MAX);
 
 /// Blocks of the table's cases.
 const PLAN: Plan = Plan {

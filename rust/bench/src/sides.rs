@@ -1,37 +1,22 @@
-//! The two sides of a case.
+//! The cases, and the two sides of each.
 
-use std::hint::black_box;
+use reference::State;
+use reference::methods::Method;
 
-use gapyndura::Xoshiro256PlusPlus as Port;
-use rand::rngs::Xoshiro256PlusPlus as Rand;
-use rand::seq::index;
-use reference::methods::{Method, due};
-use reference::{State, from_state, state};
+use crate::samples::{self, Sample};
+use crate::{fills, shuffles};
 
-/// A sample of so many indices below a length.
+/// What is measured.
 #[derive(Clone, Copy, Debug)]
-pub struct Case {
-    pub amount: u32,
-    pub length: u32,
-}
-
-impl Case {
-    pub const fn new(amount: u32, length: u32) -> Self {
-        Self { amount, length }
-    }
-
-    /// The method by which both sides draw it.
-    pub fn method(self) -> Method {
-        due(self.length, self.amount)
-    }
-
-    /// The entries of scratch that the port needs.
-    pub fn scratch(self) -> usize {
-        match self.method() {
-            Method::InPlace => self.length as usize,
-            _ => 0,
-        }
-    }
+pub enum Case {
+    /// A sample of indices.
+    Sample(Sample),
+    /// A shuffle of so many items.
+    Shuffle { len: usize },
+    /// A shuffle of so many items to the end.
+    PartialShuffle { amount: usize, len: usize },
+    /// A fill of so many slots from so many items.
+    Fill { slots: usize, items: usize },
 }
 
 /// A side of a case.
@@ -39,75 +24,70 @@ pub trait Side {
     /// Starts again from this state.
     fn start(&mut self, from: State);
 
-    /// Draws one sample.
+    /// Makes one call.
     fn draw(&mut self);
 
     /// The state that it has come to.
     fn state(&self) -> State;
 }
 
-/// rand, which returns its indices in a vector of its own.
-pub struct Theirs {
-    case: Case,
-    rng: Rand,
-}
-
-impl Theirs {
-    pub fn new(case: Case) -> Self {
-        let rng = from_state([1, 2, 3, 4]);
-        Self { case, rng }
-    }
-}
-
-impl Side for Theirs {
-    fn start(&mut self, from: State) {
-        self.rng = from_state(from);
+impl Case {
+    pub const fn sample(amount: u32, length: u32) -> Self {
+        Self::Sample(Sample::new(amount, length))
     }
 
-    fn draw(&mut self) {
-        let (length, amount) = (self.case.length as usize, self.case.amount as usize);
-        black_box(index::sample(&mut self.rng, length, amount));
-    }
-
-    fn state(&self) -> State {
-        state(&self.rng)
-    }
-}
-
-/// The port, which is lent the same two slices again and again.
-pub struct Ours {
-    case: Case,
-    rng: Port,
-    indices: Vec<u32>,
-    scratch: Vec<u32>,
-}
-
-impl Ours {
-    pub fn new(case: Case) -> Self {
-        Self {
-            case,
-            rng: Port::from_state([1, 2, 3, 4]),
-            indices: vec![0; case.amount as usize],
-            scratch: vec![0; case.scratch()],
+    /// rand's side and the port's.
+    pub fn sides(self) -> [Box<dyn Side>; 2] {
+        match self {
+            Self::Sample(sample) => [
+                Box::new(samples::Theirs::new(sample)),
+                Box::new(samples::Ours::new(sample)),
+            ],
+            Self::Shuffle { len } => [
+                Box::new(shuffles::Theirs::new(len, None)),
+                Box::new(shuffles::Ours::new(len, None)),
+            ],
+            Self::PartialShuffle { amount, len } => [
+                Box::new(shuffles::Theirs::new(len, Some(amount))),
+                Box::new(shuffles::Ours::new(len, Some(amount))),
+            ],
+            Self::Fill { slots, items } => [
+                Box::new(fills::Theirs::new(slots, items)),
+                Box::new(fills::Ours::new(slots, items)),
+            ],
         }
     }
-}
 
-impl Side for Ours {
-    fn start(&mut self, from: State) {
-        self.rng = Port::from_state(from);
+    /// The numbers of the case: how many of how many. A whole shuffle has one.
+    pub fn sizes(self) -> (Option<u64>, u64) {
+        match self {
+            Self::Sample(sample) => (Some(sample.amount.into()), sample.length.into()),
+            Self::Shuffle { len } => (None, len as u64),
+            Self::PartialShuffle { amount, len } => (Some(amount as u64), len as u64),
+            Self::Fill { slots, items } => (Some(slots as u64), items as u64),
+        }
     }
 
-    fn draw(&mut self) {
-        let (length, amount) = (self.case.length.into(), self.case.amount.into());
-        let (indices, scratch) = (&mut self.indices, &mut self.scratch);
-        let result =
-            gapyndura::index::sample(&mut self.rng, length, amount, u64::MAX, indices, scratch);
-        result.expect("the slices and the budget suffice");
-        black_box(&self.indices);
+    /// The call, or of a sample the method by which both sides draw it.
+    pub fn method(self) -> &'static str {
+        match self {
+            Self::Sample(sample) => match sample.method() {
+                Method::Floyd => "Floyd",
+                Method::InPlace => "in place",
+                Method::Rejection => "rejection",
+            },
+            Self::Shuffle { .. } => "shuffle",
+            Self::PartialShuffle { .. } => "partial shuffle",
+            Self::Fill { .. } => "fill",
+        }
     }
 
-    fn state(&self) -> State {
-        self.rng.state()
+    /// The entries that the port is lent to write.
+    pub fn lent(self) -> usize {
+        match self {
+            Self::Sample(sample) => sample.amount as usize + sample.scratch(),
+            Self::Shuffle { len } | Self::PartialShuffle { len, .. } => len,
+            Self::Fill { slots, .. } => slots,
+        }
     }
 }

@@ -1,15 +1,13 @@
 //! The table.
 
-use reference::methods::Method;
-
 use crate::allocation::{Allocated, allocated};
-use crate::sides::{Case, Ours, Side, Theirs};
+use crate::sides::{Case, Side};
 use crate::timing::{Plan, nanoseconds};
 
 /// Measures the cases and prints a line for each.
 pub fn print(cases: &[Case], plan: &Plan) {
     println!(
-        "| Case | Method | rand, ns a call | ours, ns a call | ours / rand | rand allocates | ours allocates | ours is lent |"
+        "| Case | Call or method | rand, ns a call | ours, ns a call | ours / rand | rand allocates | ours allocates | ours is lent |"
     );
     println!("|---|---|---:|---:|---:|---|---|---|");
     for &case in cases {
@@ -18,20 +16,16 @@ pub fn print(cases: &[Case], plan: &Plan) {
 }
 
 fn line(case: Case, plan: &Plan) -> String {
-    let (mut theirs, mut ours) = (Theirs::new(case), Ours::new(case));
+    let [mut theirs, mut ours] = case.sides();
     // What a call allocates is counted at the first one.
-    let sides = [&mut theirs as &mut dyn Side, &mut ours];
+    let sides = [&mut *theirs as &mut dyn Side, &mut *ours];
     let first = sides.map(|side| allocated(|| nanoseconds(side, 0, 1)));
     let heap = first.map(|(_, heap)| heap);
-    let [rand, port] = plan.best([&mut theirs, &mut ours], first.map(|(time, _)| time));
-    let lent = (case.amount as usize + case.scratch()) * size_of::<u32>();
+    let [rand, port] = plan.best([&mut *theirs, &mut *ours], first.map(|(time, _)| time));
+    let lent = case.lent() * size_of::<u32>();
     let cells = [
-        format!(
-            "{} of {}",
-            grouped(case.amount.into()),
-            grouped(case.length.into())
-        ),
-        name(case.method()).to_owned(),
+        title(case),
+        case.method().to_owned(),
         grouped(rand.round() as u64),
         grouped(port.round() as u64),
         format!("{:.2}", port / rand),
@@ -42,11 +36,10 @@ fn line(case: Case, plan: &Plan) -> String {
     format!("| {} |", cells.join(" | "))
 }
 
-fn name(method: Method) -> &'static str {
-    match method {
-        Method::Floyd => "Floyd",
-        Method::InPlace => "in place",
-        Method::Rejection => "rejection",
+fn title(case: Case) -> String {
+    match case.sizes() {
+        (Some(amount), length) => format!("{} of {}", grouped(amount), grouped(length)),
+        (None, length) => grouped(length),
     }
 }
 
