@@ -97,6 +97,82 @@ uint32_t gapyndura_shuffle(uint64_t state[4], uint32_t *items, size_t len, uint6
 uint32_t gapyndura_sample_fill(uint64_t state[4], const uint32_t *items, size_t items_len,
                                uint32_t *buf, size_t buf_len, uint64_t out[2]);
 
+/* A table of weights is a record, table = { count, total }, and the running sums of all weights but the last, which the caller
+ * keeps at the front of a slice cumulative_weights: entry i adds weights 0 to i, so there are count - 1 of them, and the total adds
+ * all. Entries behind them are the caller's own and are neither read nor written. A call takes the record that the last call
+ * answered with 0 has written, and the slice as the last call left it. These calls read no word but for gapyndura_weights_pick.
+ *
+ * Weights are of 32 bits, and so is their total. A table that is that of no weights is refused with 7: a sum is below the one before
+ * it or above the total, the total or the count is 0, the total is above 2^32 - 1, or cumulative_len is below count - 1. To see that,
+ * each of the three calls that take a table reads all its sums. */
+
+/* Makes the table of count weights.
+ *
+ * Answers 0 where it is made, else the number of the first cause here that applies:
+ *   10  count is above 2^32 - 2
+ *    2  count is 0
+ *    8  cumulative_len is below count - 1
+ *    3  the weights add up to more than 2^32 - 1
+ *    4  every weight is 0
+ *
+ * On every answer:
+ *   table               is { count, total } on 0, and unchanged on a refusal;
+ *   cumulative_weights  has the count - 1 sums at its front on 0, and is unchanged behind them; on a refusal it is unchanged.
+ *
+ * No pointer is null, cumulative_weights neither where cumulative_len is 0, nor weights where count is 0. */
+uint32_t gapyndura_weights_new(const uint32_t *weights, size_t count, uint32_t *cumulative_weights, size_t cumulative_len,
+                               uint64_t table[2]);
+
+/* Gives the weights to the places: weights[j] to the one at places[j], which go up. An empty change is accepted.
+ *
+ * Answers 0 where the table is changed, else the number of the first cause here that applies:
+ *   10  the count, or weights_len, is above 2^32 - 2
+ *    7  the table is that of no weights
+ *    8  places_len and weights_len differ
+ *   then for each place in turn:
+ *    5  it is not above the one before
+ *    6  it is not below the count
+ *    3  with the changes up to it the weights add up to more than 2^32 - 1
+ *   and at the end:
+ *    4  every weight would be 0
+ *
+ * On every answer:
+ *   table               is { count, the new total } on 0, and unchanged on a refusal;
+ *   cumulative_weights  has the new sums at its front on 0, and is unchanged behind them; on a refusal it is unchanged.
+ *
+ * No pointer is null, neither where the length that goes with it is 0. */
+uint32_t gapyndura_weights_update(uint64_t table[2], uint32_t *cumulative_weights, size_t cumulative_len,
+                                  const uint64_t *places, size_t places_len, const uint32_t *weights, size_t weights_len);
+
+/* Looks up the weight at a place.
+ *
+ * Answers 0, also where the place is beyond the last, else the number of the first cause here that applies:
+ *   10  the count is above 2^32 - 2
+ *    7  the table is that of no weights
+ *
+ * On every answer out is { 1, the weight } where there is one, and { 0, 0 } beyond the last place and on a refusal. Nothing else is
+ * written. No pointer is null, cumulative_weights neither where cumulative_len is 0. */
+uint32_t gapyndura_weights_weight(const uint64_t table[2], const uint32_t *cumulative_weights, size_t cumulative_len,
+                                  uint64_t place, uint64_t out[2]);
+
+/* Picks an item by its weight: of the 2^32 words, each item's own number of them is its weight times 2^32 / total, rounded down; the
+ * other words are dropped, and the next is read. budget is the most words that it may read.
+ *
+ * Answers 0 where an item is picked, else the number of the first cause here that applies:
+ *   12  all four words of state are 0: that is no generator
+ *   10  the count is above 2^32 - 2
+ *    7  the table is that of no weights
+ *   13  budget words are read, and all of them were dropped
+ *
+ * On every answer:
+ *   state    is the generator after the words read;
+ *   out[0]   is the words read: exactly budget on 13, 0 on another refusal;
+ *   out[1]   is the item's index, which is below the count, on 0; it is 0 on a refusal.
+ *
+ * No pointer is null, cumulative_weights neither where cumulative_len is 0. */
+uint32_t gapyndura_weights_pick(uint64_t state[4], const uint64_t table[2], const uint32_t *cumulative_weights,
+                                size_t cumulative_len, uint64_t budget, uint64_t out[2]);
+
 #ifdef __cplusplus
 }
 #endif

@@ -1,1 +1,3 @@
 pub mod Packed
+pub mod PackedWeights
+pub mod NoRecord

@@ -5,3 +5,4 @@ mod sampling;
 mod seeding;
 mod shuffling;
 mod state;
+mod weights;

@@ -1,9 +1,14 @@
--- The number of an outcome does not lean on its value, and the value stands alone.
+-- The number of an outcome does not lean on its value, and the value stands alone; a refusal's number is never 0.
 -- Assumes nothing.
 use mathlib.Core.Path.{_≡_, refl}
+use mathlib.Core.Bool.{false}
 use mathlib.Core.List.{[], _∷_}
 use Prim.Native.Nat.{ℕ}
+use lib.Dec.{eqb}
 use Rattle.refusal.specs.Answer.{answerOf}
+use Rattle.refusal.specs.Number.{number}
+use Rattle.refusal.specs.declared.Refusal.{Refusal}
+use Rattle.refusal.specs.declared.Refusal.the-variants.{AmountExceedsLength, NoWeights, Overflow, InsufficientNonZero, PlacesNotIncreasing, PlaceOutOfRange, InvalidTable, SliceTooShort, ScratchTooShort, TooLong, InvalidHints, ZeroState, BudgetExhausted}
 use Rattle.refusal.specs.declared.Outcome.{Outcome}
 use Rattle.refusal.specs.declared.Outcome.the-variants.{Done, Refused}
 
@@ -14,3 +19,19 @@ number-of (Refused r) n = refl
 pub values-of : (o : Outcome) (n : ℕ) → answerOf o n .values ≡ n ∷ []
 values-of Done n = refl
 values-of (Refused r) n = refl
+
+-- no refusal has the number of a call that was carried out
+pub refused-number : (r : Refusal) → eqb (number r) 0 ≡ false
+refused-number AmountExceedsLength = refl
+refused-number NoWeights = refl
+refused-number Overflow = refl
+refused-number InsufficientNonZero = refl
+refused-number PlacesNotIncreasing = refl
+refused-number PlaceOutOfRange = refl
+refused-number InvalidTable = refl
+refused-number SliceTooShort = refl
+refused-number ScratchTooShort = refl
+refused-number TooLong = refl
+refused-number InvalidHints = refl
+refused-number ZeroState = refl
+refused-number BudgetExhausted = refl
