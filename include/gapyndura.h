@@ -155,7 +155,7 @@ uint32_t gapyndura_weights_update(uint64_t table[2], uint32_t *cumulative_weight
 uint32_t gapyndura_weights_weight(const uint64_t table[2], const uint32_t *cumulative_weights, size_t cumulative_len,
                                   uint64_t place, uint64_t out[2]);
 
-/* Picks an item by its weight: of the 2^32 words, each item's own number of them is its weight times 2^32 / total, rounded down; the
+/* Picks an item by its weight w: exactly w * floor(2^32 / total) of the 2^32 words pick it; the
  * other words are dropped, and the next is read. budget is the most words that it may read.
  *
  * Answers 0 where an item is picked, else the number of the first cause here that applies:

@@ -8,6 +8,7 @@ use super::shuffling;
 use super::text::Numbers;
 use super::text::name_end;
 use super::text::read_numbers;
+use super::weights;
 use check::same;
 use uniform_int::Draw;
 use uniform_int::Sampled;
@@ -149,6 +150,9 @@ pub fn make(line: &[u8]) {
     }
     if same(name, b"sample_fill") {
         filling::fill(n);
+    }
+    if same(name, b"weighted_index") {
+        weights::weigh(n);
     }
     if same(name, b"uniform_int") {
         let reading = Reading::Rejecting(values[4], values[5]);

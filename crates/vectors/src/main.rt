@@ -13,6 +13,7 @@ mod sampling;
 mod shuffling;
 mod slices;
 mod text;
+mod weights;
 
 // Makes the call on each line.
 fn replay(list: &[u8]) {
