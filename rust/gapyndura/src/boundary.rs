@@ -40,6 +40,37 @@ unsafe extern "C" {
         buf_len: usize,
         out: &mut [u64; 2],
     ) -> u32;
+    pub fn gapyndura_weights_new(
+        weights: *const u32,
+        count: usize,
+        cumulative_weights: *mut u32,
+        cumulative_len: usize,
+        table: &mut [u64; 2],
+    ) -> u32;
+    pub fn gapyndura_weights_update(
+        table: &mut [u64; 2],
+        cumulative_weights: *mut u32,
+        cumulative_len: usize,
+        places: *const u64,
+        places_len: usize,
+        weights: *const u32,
+        weights_len: usize,
+    ) -> u32;
+    pub fn gapyndura_weights_weight(
+        table: &[u64; 2],
+        cumulative_weights: *const u32,
+        cumulative_len: usize,
+        place: u64,
+        out: &mut [u64; 2],
+    ) -> u32;
+    pub fn gapyndura_weights_pick(
+        state: &mut [u64; 4],
+        table: &[u64; 2],
+        cumulative_weights: *const u32,
+        cumulative_len: usize,
+        budget: u64,
+        out: &mut [u64; 2],
+    ) -> u32;
 }
 
 #[cfg(test)]
