@@ -25,6 +25,13 @@ impl Lent {
         )
     }
 
+    /// A slice of these entries.
+    pub fn of(entries: &[u32]) -> Self {
+        let mut lent = Self::new(entries.len());
+        lent.entries().copy_from_slice(entries);
+        lent
+    }
+
     /// A hash of it and of what is around it.
     pub fn hash(&self) -> u64 {
         hash(&self.0)

@@ -15,6 +15,9 @@ use crate::{State, from_state, state};
 /// What a new table answers: the record, or the number of the refusal.
 pub type Made = Result<Record, u64>;
 
+/// How a change ends: it is carried out, or refused with this number.
+pub type Changed = Result<(), u64>;
+
 /// What a lookup answers: the weight if there is one, or the number of the refusal.
 pub type Looked = Result<Option<u32>, u64>;
 
@@ -113,7 +116,7 @@ impl Held {
     /// # Panics
     ///
     /// If rand does not end the call as the plain list does.
-    pub fn update_weights(&mut self, places: &[u64], weights: &[u32]) -> Result<(), u64> {
+    pub fn update_weights(&mut self, places: &[u64], weights: &[u32]) -> Changed {
         let changed = self.list.changed(places, weights);
         if let Err(TOO_LONG | SLICE_TOO_SHORT | OVERFLOW) = changed {
             return changed.map(|_| ());
@@ -198,7 +201,7 @@ pub fn update_weights(
     lent: &mut [u32],
     places: &[u64],
     weights: &[u32],
-) -> Result<(), u64> {
+) -> Changed {
     if weights.len() as u64 > MOST_WEIGHTS {
         return Err(TOO_LONG);
     }

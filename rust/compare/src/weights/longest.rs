@@ -1,0 +1,1 @@
+//! Tables of as many weights as there may be, and of one more, in slices that take memory only where they are touched.
