@@ -28,11 +28,10 @@ use program::Program;
 use reference::call::Name;
 
 /// The kinds of call at the C boundary, in the order in which they are run.
-const KINDS: [Entry; 14] = [
+const KINDS: [Entry; 13] = [
     Entry::of::<seeding::FromSeed>(),
     Entry::of::<seeding::SeedFromU64>(),
     Entry::of::<sample::Sample>(),
-    Entry::of::<sample::run::Run>(),
     Entry::of::<sample::choice::Choice>(),
     Entry::of::<shuffle::PartialShuffle>(),
     Entry::of::<shuffle::Shuffle>(),

@@ -3,6 +3,8 @@
 //! and to rand's table but where the Rust has no such call.
 
 mod change;
+#[cfg(test)]
+mod differences;
 mod faults;
 mod history;
 #[cfg(test)]
