@@ -1,24 +1,33 @@
-//! Long runs: one generator carried through many shuffles and fills, so that a generator left in the wrong place shows in all that
-//! follows.
+//! Long mixed runs: one generator carried through many samples, shuffles, fills and picks, so that a generator left in the wrong place
+//! shows in all that follows.
 
 use reference::filling::{Filling, sample_fill};
-use reference::sampling::Ended;
+use reference::plain_list::Record;
+use reference::sampling::{Ended, Sampling};
 use reference::shuffling::{Outcome, Shuffling, Whole, partial_shuffle, shuffle};
+use reference::weighing::pick;
 use reference::{State, hash};
 
 use crate::fill::{self, SampleFill};
 use crate::inputs::{Source, edges, smaller};
 use crate::kind::Kind;
+use crate::sample::{self, Sample};
 use crate::shuffle::{self, PartialShuffle, Shuffle};
 use crate::slices::Lent;
+use crate::weights;
 
 /// The calls of a run.
 const CALLS: u64 = 1000;
 
-/// Shuffles and fills one after another from one generator.
-pub struct LongRun;
+/// A pick that reads its words and leaves the generator as it was.
+const GENERATOR_STAYS: &str = "generator-stays";
 
-/// A run: where it starts, the seed of the sizes of its calls, and their number.
+/// All calls that draw, one after another from one generator.
+pub struct LongRun {
+    port: Calls,
+}
+
+/// A run: where it starts, the seed of all else that its calls are given, and their number.
 #[derive(Clone, Debug)]
 pub struct Input {
     from: State,
@@ -36,33 +45,47 @@ pub struct Total {
 
 /// A way to make each of the calls.
 struct Calls {
+    sample: sample::End,
     partial_shuffle: fn(State, u64, &mut [u32]) -> Outcome,
     shuffle: fn(State, &mut [u32]) -> Outcome,
     sample_fill: fill::End,
+    pick: fn(State, Record, &[u32], u64) -> Ended,
 }
 
 /// rand's calls.
 const RAND: Calls = Calls {
+    sample: Sampling::end,
     partial_shuffle,
     shuffle,
     sample_fill,
+    pick,
 };
 
 /// The port's calls.
 const PORT: Calls = Calls {
+    sample: sample::port::end,
     partial_shuffle: shuffle::port::partial_shuffle,
     shuffle: shuffle::port::shuffle,
     sample_fill: fill::port::sample_fill,
+    pick: weights::PORT.pick,
 };
 
 impl Kind for LongRun {
-    const NAME: &'static str = "shuffles and fills, one generator for many";
-    const FAULTS: &'static [&'static str] = &[];
+    const NAME: &'static str = "samples, shuffles, fills and picks, one generator for many";
+    const FAULTS: &'static [&'static str] = &[GENERATOR_STAYS];
+    const PARTS: usize = 2;
     type Input = Input;
     type Answer = Total;
 
-    fn new(_: Option<&str>) -> Self {
-        Self
+    fn new(plant: Option<&str>) -> Self {
+        let mut port = PORT;
+        if plant == Some(GENERATOR_STAYS) {
+            port.pick = |from, table, lent, budget| Ended {
+                state: from,
+                ..(PORT.pick)(from, table, lent, budget)
+            };
+        }
+        Self { port }
     }
 
     fn fixed(mut visit: impl FnMut(Input)) {
@@ -100,7 +123,7 @@ impl Kind for LongRun {
     }
 
     fn port(&self, input: &Input) -> Total {
-        PORT.total(input)
+        self.port.total(input)
     }
 }
 
@@ -114,41 +137,62 @@ impl Calls {
             hash: 0,
         };
         for _ in 0..input.calls {
-            let (ended, written) = self.call(total.state, &mut source);
+            let (ended, lent) = self.call(total.state, &mut source);
             total.state = ended.state;
             total.words += ended.words;
-            let seen = [
-                total.hash,
-                ended.number,
-                ended.count,
-                ended.words,
-                written.hash(),
-            ];
-            total.hash = hash(&seen.map(|number| (number ^ number >> 32) as u32));
+            let mut seen = vec![total.hash, ended.number, ended.count, ended.words];
+            seen.extend(lent.iter().map(Lent::hash));
+            let halves = seen.iter().map(|number| (number ^ number >> 32) as u32);
+            total.hash = hash(&halves.collect::<Vec<u32>>());
         }
         total
     }
 
-    /// A random call from this generator: how it ends, and the slice that it has written.
-    fn call(&self, from: State, source: &mut Source) -> (Ended, Lent) {
-        let shuffled = match source.below(3) {
-            0 => {
-                let Shuffling { len, amount, .. } = PartialShuffle::random(source);
-                shuffle::Answer::new(len, |items| (self.partial_shuffle)(from, amount, items))
-            }
+    /// A random call from this generator: how it ends, and the slices that it was lent.
+    fn call(&self, from: State, source: &mut Source) -> (Ended, Vec<Lent>) {
+        match source.below(5) {
+            0 => self.sample(from, source),
             1 => {
-                let Whole { len, .. } = Shuffle::random(source);
-                shuffle::Answer::new(len, |items| (self.shuffle)(from, items))
+                let Shuffling { len, amount, .. } = PartialShuffle::random(source);
+                shuffled(len, |items| (self.partial_shuffle)(from, amount, items))
             }
-            _ => {
+            2 => {
+                let Whole { len, .. } = Shuffle::random(source);
+                shuffled(len, |items| (self.shuffle)(from, items))
+            }
+            3 => {
                 let call = Filling {
                     from,
                     ..SampleFill::random(source)
                 };
                 let answer = fill::Answer::new(&call, self.sample_fill);
-                return (answer.ended, answer.buf);
+                (answer.ended, vec![answer.buf])
             }
-        };
-        (shuffled.ended, shuffled.items)
+            _ => self.pick(from, source),
+        }
     }
+
+    fn sample(&self, from: State, source: &mut Source) -> (Ended, Vec<Lent>) {
+        let call = Sampling {
+            from,
+            ..Sample::random(source)
+        };
+        let end = self.sample;
+        let answer = sample::Answer::new(&call, |indices, scratch| end(&call, indices, scratch));
+        (answer.ended, vec![answer.indices, answer.scratch])
+    }
+
+    fn pick(&self, from: State, source: &mut Source) -> (Ended, Vec<Lent>) {
+        let table = weights::random::table(source);
+        let budget = weights::random::budget(source);
+        let mut sums = Lent::of(&table.sums);
+        let ended = (self.pick)(from, table.record, sums.entries(), budget);
+        (ended, vec![sums])
+    }
+}
+
+/// How a shuffle of so many items ends, and the items.
+fn shuffled(len: usize, end: impl FnOnce(&mut [u32]) -> Outcome) -> (Ended, Vec<Lent>) {
+    let answer = shuffle::Answer::new(len, end);
+    (answer.ended, vec![answer.items])
 }

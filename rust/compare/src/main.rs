@@ -17,6 +17,7 @@ mod sample;
 mod seeding;
 mod shuffle;
 mod slices;
+mod weights;
 
 use std::env;
 use std::process::ExitCode;
@@ -27,15 +28,19 @@ use program::Program;
 use reference::call::Name;
 
 /// The kinds of call at the C boundary, in the order in which they are run.
-const KINDS: [Entry; 9] = [
+const KINDS: [Entry; 13] = [
     Entry::of::<seeding::FromSeed>(),
     Entry::of::<seeding::SeedFromU64>(),
     Entry::of::<sample::Sample>(),
-    Entry::of::<sample::run::Run>(),
     Entry::of::<sample::choice::Choice>(),
     Entry::of::<shuffle::PartialShuffle>(),
     Entry::of::<shuffle::Shuffle>(),
     Entry::of::<fill::SampleFill>(),
+    Entry::of::<weights::New>(),
+    Entry::of::<weights::Change>(),
+    Entry::of::<weights::Lookup>(),
+    Entry::of::<weights::Pick>(),
+    Entry::of::<weights::History>(),
     Entry::of::<long_run::LongRun>(),
 ];
 

@@ -25,6 +25,13 @@ impl Lent {
         )
     }
 
+    /// A slice of these entries.
+    pub fn of(entries: &[u32]) -> Self {
+        let mut lent = Self::new(entries.len());
+        lent.entries().copy_from_slice(entries);
+        lent
+    }
+
     /// A hash of it and of what is around it.
     pub fn hash(&self) -> u64 {
         hash(&self.0)
@@ -49,22 +56,22 @@ impl fmt::Debug for Lent {
     }
 }
 
+/// What a slice of zeros can be made of: zero bytes are one of these.
+pub trait Number {}
+
+impl Number for u32 {}
+impl Number for u64 {}
+
 /// A slice of zeros that takes memory only where it is touched, for calls that refuse before they touch it.
-pub fn without_memory(len: usize) -> &'static mut [u32] {
+pub fn without_memory<T: Number>(len: usize) -> &'static mut [T] {
     unsafe extern "C" {
         /// The C library's, with the types that it has on x86-64 Linux.
-        fn mmap(
-            at: *mut u32,
-            size: usize,
-            access: i32,
-            flags: i32,
-            file: i32,
-            from: i64,
-        ) -> *mut u32;
+        fn mmap(at: *mut u8, size: usize, access: i32, flags: i32, file: i32, from: i64)
+        -> *mut u8;
     }
     const READ_AND_WRITE: i32 = 1 | 2;
     const PRIVATE_ANONYMOUS_NORESERVE: i32 = 0x2 | 0x20 | 0x4000;
-    let size = len * size_of::<u32>();
+    let size = len * size_of::<T>();
     // SAFETY: no address is asked for, so nothing that is mapped is replaced.
     let start = unsafe {
         mmap(
@@ -80,6 +87,6 @@ pub fn without_memory(len: usize) -> &'static mut [u32] {
         start.addr() != usize::MAX,
         "no room for {len} entries among the addresses"
     );
-    // SAFETY: these are pages of zeros that nothing else knows of, and they are never given back.
-    unsafe { slice::from_raw_parts_mut(start, len) }
+    // SAFETY: these are pages of zeros that nothing else knows of, they are never given back, and zero bytes are numbers.
+    unsafe { slice::from_raw_parts_mut(start.cast(), len) }
 }

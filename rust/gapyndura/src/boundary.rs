@@ -40,34 +40,38 @@ unsafe extern "C" {
         buf_len: usize,
         out: &mut [u64; 2],
     ) -> u32;
+    pub fn gapyndura_weights_new(
+        weights: *const u32,
+        count: usize,
+        cumulative_weights: *mut u32,
+        cumulative_len: usize,
+        table: &mut [u64; 2],
+    ) -> u32;
+    pub fn gapyndura_weights_update(
+        table: &mut [u64; 2],
+        cumulative_weights: *mut u32,
+        cumulative_len: usize,
+        places: *const u64,
+        places_len: usize,
+        weights: *const u32,
+        weights_len: usize,
+    ) -> u32;
+    pub fn gapyndura_weights_weight(
+        table: &[u64; 2],
+        cumulative_weights: *const u32,
+        cumulative_len: usize,
+        place: u64,
+        out: &mut [u64; 2],
+    ) -> u32;
+    pub fn gapyndura_weights_pick(
+        state: &mut [u64; 4],
+        table: &[u64; 2],
+        cumulative_weights: *const u32,
+        cumulative_len: usize,
+        budget: u64,
+        out: &mut [u64; 2],
+    ) -> u32;
 }
 
 #[cfg(test)]
-mod tests {
-    use super::{gapyndura_partial_shuffle, gapyndura_sample_fill, gapyndura_shuffle};
-
-    /// A call with a state, and with the out-parameter that is written.
-    type Call<'a> = &'a mut dyn FnMut(&mut [u64; 4], &mut [u64; 2]) -> u32;
-
-    /// What a refusal writes besides its number, which the safe calls do not hand on.
-    #[test]
-    fn a_refused_shuffle_or_fill_has_read_and_placed_nothing() {
-        let mut items = [5, 6, 7];
-        let mut buf = [8, 9];
-        let (at, len) = (items.as_mut_ptr(), items.len());
-        let calls: [Call<'_>; 3] = [
-            // SAFETY: the pointers are those of arrays that nothing else uses meanwhile.
-            &mut |state, out| unsafe { gapyndura_partial_shuffle(state, at, len, 2, out) },
-            &mut |state, out| unsafe { gapyndura_shuffle(state, at, len, out) },
-            &mut |state, out| unsafe {
-                gapyndura_sample_fill(state, at, len, buf.as_mut_ptr(), buf.len(), out)
-            },
-        ];
-        for call in calls {
-            let (mut state, mut out) = ([0; 4], [3, 4]);
-            assert_eq!(call(&mut state, &mut out), 12);
-            assert_eq!((state, out), ([0; 4], [0; 2]));
-        }
-        assert_eq!((items, buf), ([5, 6, 7], [8, 9]));
-    }
-}
+mod tests;

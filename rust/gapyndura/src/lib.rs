@@ -22,6 +22,7 @@ pub mod index;
 pub mod iterator;
 mod refusal;
 pub mod slice;
+pub mod weighted_index;
 mod xoshiro256plusplus;
 
 pub use refusal::Refusal;

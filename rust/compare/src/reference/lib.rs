@@ -8,10 +8,12 @@ pub mod filling;
 mod hash;
 pub mod methods;
 pub mod panics;
+pub mod plain_list;
 pub mod sample_line;
 pub mod sampling;
 pub mod shuffle_line;
 pub mod shuffling;
+pub mod weighing;
 pub mod words;
 
 use std::convert::Infallible;

@@ -12,7 +12,7 @@ use crate::{State, from_state, state};
 /// The numbers of document 01's table for the other refusals. Its word for each: "overdrawn", "short tray", "short bench",
 /// "too long", "dead generator".
 const AMOUNT_EXCEEDS_LENGTH: u64 = 1;
-const SLICE_TOO_SHORT: u64 = 8;
+pub(crate) const SLICE_TOO_SHORT: u64 = 8;
 const SCRATCH_TOO_SHORT: u64 = 9;
 pub(crate) const TOO_LONG: u64 = 10;
 pub(crate) const ZERO_STATE: u64 = 12;
@@ -29,7 +29,7 @@ pub struct Sampling {
 }
 
 /// How a call ends: the answer, the count of indices written, the words read, and the state afterwards. In place of the count a
-/// shuffle has the place n where its tail starts, and a fill the count of slots filled.
+/// shuffle has the place n where its tail starts, a fill the count of slots filled, and a pick the index.
 #[derive(Clone, Debug, PartialEq, Eq)]
 pub struct Ended {
     pub number: u64,

@@ -4,9 +4,8 @@
 pub mod choice;
 mod faults;
 mod fixed;
-mod port;
+pub mod port;
 mod random;
-pub mod run;
 
 use reference::sampling::{Ended, Sampling};
 
@@ -23,14 +22,17 @@ pub struct Sample {
 /// All that is left of a call.
 #[derive(Debug, PartialEq)]
 pub struct Answer {
-    ended: Ended,
-    indices: Lent,
-    scratch: Lent,
+    pub ended: Ended,
+    pub indices: Lent,
+    pub scratch: Lent,
 }
+
+/// A way to end a call.
+pub type End = fn(&Sampling, &mut [u32], &mut [u32]) -> Ended;
 
 impl Answer {
     /// The answer where `end` ends the call and leaves the slices as they then are.
-    fn new(call: &Sampling, end: impl FnOnce(&mut [u32], &mut [u32]) -> Ended) -> Self {
+    pub fn new(call: &Sampling, end: impl FnOnce(&mut [u32], &mut [u32]) -> Ended) -> Self {
         let mut indices = Lent::new(call.indices_len);
         let mut scratch = Lent::new(call.scratch_len);
         let ended = end(indices.entries(), scratch.entries());

@@ -1,0 +1,107 @@
+//! Faults that can be put into the port's calls on a table, so that a comparison is seen to fail.
+
+use reference::State;
+use reference::draws::rejecting;
+use reference::from_state;
+use reference::plain_list::{PLACE_OUT_OF_RANGE, PLACES_NOT_INCREASING, Record};
+use reference::sampling::Ended;
+use reference::weighing::{Changed, Made};
+
+use super::{Calls, PORT, port};
+
+/// A sum equal to the drawn number picks its own item.
+pub const EQUAL_SUM: &str = "equal-sum";
+
+/// The last sum, which is the total, is written behind the others where an entry is lent for it.
+pub const LAST_SUM: &str = "last-sum";
+
+/// A change that adds the new weights and does not drop the old.
+pub const OLD_WEIGHT: &str = "old-weight";
+
+/// A change that is refused at an item, with the items before it written.
+pub const REFUSAL_WRITES: &str = "refusal-writes";
+
+/// A pick that dropped a word, with a figure of one word less.
+pub const PICK_WORDS: &str = "pick-words";
+
+/// A place out of range at any item, told before one out of order.
+pub const PLACES_ORDER: &str = "places-order";
+
+/// The port's calls with this fault in them, or as they are where the name is none of these.
+pub fn planted(plant: Option<&str>) -> Calls {
+    let mut calls = PORT;
+    match plant {
+        Some(EQUAL_SUM) => calls.pick = equal_sum,
+        Some(PICK_WORDS) => calls.pick = pick_words,
+        Some(LAST_SUM) => calls.new = last_sum,
+        Some(OLD_WEIGHT) => calls.update_weights = old_weight,
+        Some(REFUSAL_WRITES) => calls.update_weights = refusal_writes,
+        Some(PLACES_ORDER) => calls.update_weights = places_order,
+        _ => {}
+    }
+    calls
+}
+
+/// Fault [`EQUAL_SUM`].
+fn equal_sum(from: State, table: Record, lent: &[u32], budget: u64) -> Ended {
+    let mut ended = port::pick(from, table, lent, budget);
+    if ended.number == 0 {
+        let c = rejecting(&mut from_state(from), table.total_weight).value;
+        let sums = &lent[..table.count as usize - 1];
+        ended.count = sums.partition_point(|&sum| sum < c) as u64;
+    }
+    ended
+}
+
+/// Fault [`PICK_WORDS`].
+fn pick_words(from: State, table: Record, lent: &[u32], budget: u64) -> Ended {
+    let mut ended = port::pick(from, table, lent, budget);
+    ended.words -= u64::from(ended.number == 0 && ended.words > 1);
+    ended
+}
+
+/// Fault [`LAST_SUM`].
+fn last_sum(weights: &[u32], lent: &mut [u32]) -> Made {
+    let table = port::new(weights, lent)?;
+    if let Some(entry) = lent.get_mut(weights.len() - 1) {
+        *entry = table.total_weight;
+    }
+    Ok(table)
+}
+
+/// Fault [`OLD_WEIGHT`].
+fn old_weight(table: &mut Record, lent: &mut [u32], places: &[u64], weights: &[u32]) -> Changed {
+    let before = table.total_weight;
+    port::update_weights(table, lent, places, weights)?;
+    let sum = |total: u32, weight: &u32| total.wrapping_add(*weight);
+    table.total_weight = weights.iter().fold(before, sum);
+    Ok(())
+}
+
+/// Fault [`REFUSAL_WRITES`].
+fn refusal_writes(
+    table: &mut Record,
+    lent: &mut [u32],
+    places: &[u64],
+    weights: &[u32],
+) -> Changed {
+    let ended = port::update_weights(table, lent, places, weights);
+    if ended.is_err() && places.len() == weights.len() {
+        let mut fewer = (1..places.len()).rev();
+        fewer.find(|&items| {
+            let mut left_alone = *table;
+            port::update_weights(&mut left_alone, lent, &places[..items], &weights[..items]).is_ok()
+        });
+    }
+    ended
+}
+
+/// Fault [`PLACES_ORDER`].
+fn places_order(table: &mut Record, lent: &mut [u32], places: &[u64], weights: &[u32]) -> Changed {
+    let ended = port::update_weights(table, lent, places, weights);
+    let is_out_of_range = |place: &u64| *place >= table.count;
+    match ended {
+        Err(PLACES_NOT_INCREASING) if places.iter().any(is_out_of_range) => Err(PLACE_OUT_OF_RANGE),
+        other => other,
+    }
+}

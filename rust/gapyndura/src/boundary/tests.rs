@@ -1,0 +1,199 @@
+//! What the functions of the header write besides what the safe calls hand on.
+
+use super::{
+    gapyndura_partial_shuffle, gapyndura_sample_fill, gapyndura_shuffle, gapyndura_weights_new,
+    gapyndura_weights_pick, gapyndura_weights_update, gapyndura_weights_weight,
+};
+
+/// A call with a state, and with the out-parameter that is written.
+type Call<'a> = &'a mut dyn FnMut(&mut [u64; 4], &mut [u64; 2]) -> u32;
+
+#[test]
+fn a_refused_shuffle_or_fill_has_read_and_placed_nothing() {
+    let mut items = [5, 6, 7];
+    let mut buf = [8, 9];
+    let (at, len) = (items.as_mut_ptr(), items.len());
+    let calls: [Call<'_>; 3] = [
+        // SAFETY: the pointers are those of arrays that nothing else uses meanwhile.
+        &mut |state, out| unsafe { gapyndura_partial_shuffle(state, at, len, 2, out) },
+        &mut |state, out| unsafe { gapyndura_shuffle(state, at, len, out) },
+        &mut |state, out| unsafe {
+            gapyndura_sample_fill(state, at, len, buf.as_mut_ptr(), buf.len(), out)
+        },
+    ];
+    for call in calls {
+        let (mut state, mut out) = ([0; 4], [3, 4]);
+        assert_eq!(call(&mut state, &mut out), 12);
+        assert_eq!((state, out), ([0; 4], [0; 2]));
+    }
+    assert_eq!((items, buf), ([5, 6, 7], [8, 9]));
+}
+
+/// A count, and a total that may have more than 32 bits.
+type Table = [u64; 2];
+
+/// What is in a table or an out-parameter before it is written.
+const BEFORE: [u64; 2] = [77, 88];
+
+/// A generator.
+const STATE: [u64; 4] = [1, 2, 3, 4];
+
+/// The answer to a new table, and what is then in the record.
+fn new(weights: &[u32], sums: &mut [u32]) -> (u32, Table) {
+    let mut table = BEFORE;
+    // SAFETY: the pointers and lengths are those of slices, and what is written is borrowed for that.
+    let number = unsafe {
+        gapyndura_weights_new(
+            weights.as_ptr(),
+            weights.len(),
+            sums.as_mut_ptr(),
+            sums.len(),
+            &mut table,
+        )
+    };
+    (number, table)
+}
+
+/// The answer to a change, and what is then in the record and in the sums.
+fn update<const N: usize>(
+    table: Table,
+    sums: [u32; N],
+    places: &[u64],
+    weights: &[u32],
+) -> (u32, Table, [u32; N]) {
+    let (mut table, mut sums) = (table, sums);
+    // SAFETY: as in `new`.
+    let number = unsafe {
+        gapyndura_weights_update(
+            &mut table,
+            sums.as_mut_ptr(),
+            sums.len(),
+            places.as_ptr(),
+            places.len(),
+            weights.as_ptr(),
+            weights.len(),
+        )
+    };
+    (number, table, sums)
+}
+
+/// The answer to a lookup, and what it writes.
+fn weight(table: Table, sums: &[u32], place: u64) -> (u32, [u64; 2]) {
+    let mut out = BEFORE;
+    // SAFETY: as in `new`.
+    let number =
+        unsafe { gapyndura_weights_weight(&table, sums.as_ptr(), sums.len(), place, &mut out) };
+    (number, out)
+}
+
+/// The answer to a pick, what it writes, and the state afterwards.
+fn pick(state: [u64; 4], table: Table, sums: &[u32], budget: u64) -> (u32, [u64; 2], [u64; 4]) {
+    let (mut state, mut out) = (state, BEFORE);
+    // SAFETY: as in `new`.
+    let number = unsafe {
+        gapyndura_weights_pick(
+            &mut state,
+            &table,
+            sums.as_ptr(),
+            sums.len(),
+            budget,
+            &mut out,
+        )
+    };
+    (number, out, state)
+}
+
+#[test]
+fn a_refused_new_table_writes_no_record_and_no_sum() {
+    let refused: [(u32, &[u32], usize); 5] = [
+        (2, &[], 3),
+        (8, &[1, 2, 3], 1),
+        (8, &[u32::MAX, 2, 3], 1),
+        (3, &[u32::MAX, 0, 1], 2),
+        (4, &[0, 0, 0], 2),
+    ];
+    for (number, weights, lent) in refused {
+        let mut sums = [9; 3];
+        assert_eq!(new(weights, &mut sums[..lent]), (number, BEFORE));
+        assert_eq!(sums, [9; 3]);
+    }
+    let mut sums = [9; 3];
+    assert_eq!(new(&[2, 0, 3], &mut sums), (0, [3, 5]));
+    assert_eq!(sums, [2, 2, 9]);
+}
+
+#[test]
+fn a_refused_change_writes_no_record_and_no_sum() {
+    let whole = [3, 5];
+    let refused: [(u32, Table, &[u64], &[u32]); 10] = [
+        (10, [(1 << 32) - 1, 5], &[], &[]),
+        (7, [(1 << 32) - 2, 5], &[], &[]),
+        (7, [3, 1], &[0], &[]),
+        (7, [0, 5], &[], &[]),
+        (8, whole, &[0, 1], &[1]),
+        (8, whole, &[2], &[1, 1]),
+        (5, whole, &[0, 0], &[1, 1]),
+        (6, whole, &[0, 3], &[1, 1]),
+        (3, whole, &[0, 1], &[1, u32::MAX]),
+        (4, whole, &[0, 2], &[0, 0]),
+    ];
+    for (number, table, places, weights) in refused {
+        let after = update(table, [2, 2, 9], places, weights);
+        assert_eq!(after, (number, table, [2, 2, 9]));
+    }
+    let after = update(whole, [2, 2, 9], &[1], &[4]);
+    assert_eq!(after, (0, [3, 9], [2, 6, 9]));
+    let after = update(whole, [2, 2, 9], &[], &[]);
+    assert_eq!(after, (0, whole, [2, 2, 9]));
+}
+
+#[test]
+fn a_lookup_writes_zeros_where_there_is_no_weight() {
+    let sums = [2, 2];
+    assert_eq!(weight([3, 5], &sums, 2), (0, [1, 3]));
+    assert_eq!(weight([3, 5], &sums, 1), (0, [1, 0]));
+    for place in [3, 4, 1 << 32, u64::MAX] {
+        assert_eq!(weight([3, 5], &sums, place), (0, [0, 0]));
+    }
+    for place in [0, 3, u64::MAX] {
+        assert_eq!(weight([4, 5], &sums, place), (7, [0, 0]));
+        assert_eq!(weight([(1 << 32) - 1, 5], &sums, place), (10, [0, 0]));
+    }
+}
+
+#[test]
+fn a_refused_pick_writes_no_index() {
+    let (whole, sums) = ([3, 5], [2, 2]);
+    assert_eq!(pick([0; 4], whole, &sums, 9), (12, [0, 0], [0; 4]));
+    assert_eq!(pick(STATE, [1 << 32, 5], &sums, 9), (10, [0, 0], STATE));
+    assert_eq!(pick(STATE, [4, 5], &sums, 9), (7, [0, 0], STATE));
+    assert_eq!(pick(STATE, whole, &sums, 0), (13, [0, 0], STATE));
+    // The first word is 0, which a draw below 5 drops.
+    let (number, out, after) = pick([0, 0, 1, 0], whole, &sums, 1);
+    assert_eq!((number, out), (13, [1, 0]));
+    assert_eq!(after, [0, 1, 1, 0]);
+}
+
+/// A total of more than 32 bits is that of no table, whatever its low half is.
+#[test]
+fn a_total_above_32_bits_is_no_record() {
+    let sums = [2, 2, 9];
+    for total in [1 << 32, (1 << 32) + 5, 5 << 32, u64::MAX] {
+        for (count, refusal) in [(3, 7), (1, 7), (0, 7), ((1 << 32) - 2, 7)]
+            .into_iter()
+            .chain([(1 << 32) - 1, 1 << 32, u64::MAX].map(|count| (count, 10)))
+        {
+            let table = [count, total];
+            let unchanged = (refusal, table, sums);
+            assert_eq!(update(table, sums, &[], &[]), unchanged);
+            assert_eq!(update(table, sums, &[0], &[1, 1]), unchanged);
+            assert_eq!(update(table, sums, &[1, 0], &[0, 0]), unchanged);
+            assert_eq!(weight(table, &sums, 0), (refusal, [0, 0]));
+            assert_eq!(weight(table, &sums, u64::MAX), (refusal, [0, 0]));
+            for budget in [0, 9] {
+                assert_eq!(pick(STATE, table, &sums, budget), (refusal, [0, 0], STATE));
+                assert_eq!(pick([0; 4], table, &sums, budget), (12, [0, 0], [0; 4]));
+            }
+        }
+    }
+}
