@@ -7,6 +7,7 @@ mod shuffles;
 mod sides;
 mod table;
 mod timing;
+mod weights;
 
 use std::env;
 use std::process::ExitCode;
@@ -15,12 +16,13 @@ use std::time::Duration;
 use allocation::Counting;
 use sides::Case;
 use timing::Plan;
+use weights::Work;
 
 #[global_allocator]
 static ALLOCATOR: Counting = Counting;
 
 /// The cases of the table.
-const CASES: [Case; 16] = [
+const CASES: [Case; 22] = [
     Case::sample(12, 351),
     Case::sample(12, 350),
     Case::sample(100, 10_000),
@@ -46,6 +48,12 @@ const CASES: [Case; 16] = [
         slots: 100,
         items: 100_000,
     },
+    Case::weights(Work::New, 1000),
+    Case::weights(Work::Change, 1000),
+    Case::weights(Work::Lookup, 1000),
+    Case::weights(Work::Pick, 10),
+    Case::weights(Work::Pick, 1000),
+    Case::weights(Work::Pick, 100_000),
 ];
 
 /// A case that is measured once and apart: the port's filter is too small for it.

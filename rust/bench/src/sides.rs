@@ -4,6 +4,7 @@ use reference::State;
 use reference::methods::Method;
 
 use crate::samples::{self, Sample};
+use crate::weights::{self, Work};
 use crate::{fills, shuffles};
 
 /// What is measured.
@@ -17,6 +18,8 @@ pub enum Case {
     PartialShuffle { amount: usize, len: usize },
     /// A fill of so many slots from so many items.
     Fill { slots: usize, items: usize },
+    /// A call on a table of so many weights.
+    Weights { work: Work, count: usize },
 }
 
 /// A side of a case.
@@ -34,6 +37,10 @@ pub trait Side {
 impl Case {
     pub const fn sample(amount: u32, length: u32) -> Self {
         Self::Sample(Sample::new(amount, length))
+    }
+
+    pub const fn weights(work: Work, count: usize) -> Self {
+        Self::Weights { work, count }
     }
 
     /// rand's side and the port's.
@@ -55,16 +62,21 @@ impl Case {
                 Box::new(fills::Theirs::new(slots, items)),
                 Box::new(fills::Ours::new(slots, items)),
             ],
+            Self::Weights { work, count } => [
+                Box::new(weights::Theirs::new(work, count)),
+                Box::new(weights::Ours::new(work, count)),
+            ],
         }
     }
 
-    /// The numbers of the case: how many of how many. A whole shuffle has one.
+    /// The numbers of the case: how many of how many. A whole shuffle and a table have one.
     pub fn sizes(self) -> (Option<u64>, u64) {
         match self {
             Self::Sample(sample) => (Some(sample.amount.into()), sample.length.into()),
             Self::Shuffle { len } => (None, len as u64),
             Self::PartialShuffle { amount, len } => (Some(amount as u64), len as u64),
             Self::Fill { slots, items } => (Some(slots as u64), items as u64),
+            Self::Weights { count, .. } => (None, count as u64),
         }
     }
 
@@ -79,6 +91,7 @@ impl Case {
             Self::Shuffle { .. } => "shuffle",
             Self::PartialShuffle { .. } => "partial shuffle",
             Self::Fill { .. } => "fill",
+            Self::Weights { work, .. } => work.name(),
         }
     }
 
@@ -88,6 +101,7 @@ impl Case {
             Self::Sample(sample) => sample.amount as usize + sample.scratch(),
             Self::Shuffle { len } | Self::PartialShuffle { len, .. } => len,
             Self::Fill { slots, .. } => slots,
+            Self::Weights { count, .. } => count - 1,
         }
     }
 }

@@ -5,6 +5,7 @@
 mod contents;
 mod samples;
 mod shuffles;
+mod weights;
 
 use std::env;
 use std::fs;
@@ -52,7 +53,7 @@ fn texts(sections: &[Section]) -> (String, String) {
             push(&mut stdout, &joined(&call.answer()));
         }
     }
-    assert!(stdin.len() < LARGEST_LIST && stdout.len() < LARGEST_LIST);
+    assert!(stdin.len() < LARGEST_LIST);
     (stdin, stdout)
 }
 

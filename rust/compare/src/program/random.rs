@@ -5,6 +5,7 @@ use reference::call::{Call, LONGEST_SLICE, Name, Reading};
 use reference::filling::Filling;
 use reference::sampling::Sampling;
 use reference::shuffling::{Shuffling, Whole};
+use reference::weights_line::{MOST_ENTRIES, Weighing};
 use reference::words::{bounded, giving, rejecting};
 
 use crate::fill::SampleFill;
@@ -13,6 +14,7 @@ use crate::kind::Kind;
 use crate::sample::Sample;
 use crate::seeding::{FromSeed, SeedFromU64};
 use crate::shuffle::{PartialShuffle, Shuffle};
+use crate::weights;
 
 /// The most readings of one line.
 const READINGS: u32 = 32;
@@ -26,6 +28,7 @@ pub fn call(name: Name, source: &mut Source, most: u64) -> Call {
         Name::PartialShuffle => return partial_shuffle(source),
         Name::Shuffle => return Call::Shuffle(shuffle(source)),
         Name::SampleFill => return Call::SampleFill(fill(source)),
+        Name::WeightedIndex => return Call::WeightedIndex(weighing(source)),
         Name::NextU64 => Reading::NextU64,
         Name::NextU32 => Reading::NextU32,
         Name::RandomRange => Reading::RandomRange { r: bound(source) },
@@ -91,6 +94,25 @@ fn fill(source: &mut Source) -> Filling {
         items_len: call.items_len.min(LONGEST_SLICE),
         buf_len: call.buf_len.min(LONGEST_SLICE),
         ..call
+    }
+}
+
+/// A table whose three lists the program reads whole, and mostly entries enough for its sums.
+fn weighing(source: &mut Source) -> Weighing {
+    let mut weights = weights::random::weights(source);
+    weights.truncate(MOST_ENTRIES / 3);
+    let count = weights.len() as u64;
+    let (mut places, mut changes) = weights::random::change(count, source);
+    places.truncate(MOST_ENTRIES / 3);
+    changes.truncate(MOST_ENTRIES / 3);
+    Weighing {
+        from: source.state_or_zero(),
+        budget: budget(source),
+        sums_len: (weights.len() + 2).saturating_sub(source.below(4) as usize),
+        place: weights::random::place(count, source),
+        weights,
+        places,
+        changes,
     }
 }
 

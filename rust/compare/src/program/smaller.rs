@@ -2,6 +2,7 @@
 
 use reference::State;
 use reference::call::{Call, Reading};
+use reference::weights_line::Weighing;
 
 use crate::fill::SampleFill;
 use crate::inputs::{smaller, smaller_states};
@@ -9,6 +10,7 @@ use crate::kind::Kind;
 use crate::sample::Sample;
 use crate::seeding::{FromSeed, SeedFromU64};
 use crate::shuffle::{PartialShuffle, Shuffle};
+use crate::weights::lists;
 
 /// The lines that are one step smaller than this one.
 pub fn than(call: &Call) -> Vec<Call> {
@@ -18,6 +20,7 @@ pub fn than(call: &Call) -> Vec<Call> {
         Call::Sample(ref call) => each(Sample::smaller(call), Call::Sample),
         Call::Shuffle(ref call) => each(Shuffle::smaller(call), Call::Shuffle),
         Call::SampleFill(ref call) => each(SampleFill::smaller(call), Call::SampleFill),
+        Call::WeightedIndex(ref call) => each(weighings(call), Call::WeightedIndex),
         Call::PartialShuffle { ref shuffling, at } => {
             let mut calls = each(PartialShuffle::smaller(shuffling), |shuffling| {
                 Call::PartialShuffle { shuffling, at }
@@ -48,6 +51,28 @@ pub fn than(call: &Call) -> Vec<Call> {
             calls
         }
     }
+}
+
+/// Tables with one list or one number made smaller.
+fn weighings(call: &Weighing) -> Vec<Weighing> {
+    let with = |change: &dyn Fn(&mut Weighing)| {
+        let mut less = call.clone();
+        change(&mut less);
+        less
+    };
+    let weights = lists(&call.weights).into_iter();
+    let mut calls: Vec<Weighing> = weights
+        .map(|less| with(&|call| call.weights = less.clone()))
+        .collect();
+    let places = lists(&call.places).into_iter();
+    calls.extend(places.map(|less| with(&|call| call.places = less.clone())));
+    let changes = lists(&call.changes).into_iter();
+    calls.extend(changes.map(|less| with(&|call| call.changes = less.clone())));
+    calls.extend(smaller(call.sums_len as u64).map(|n| with(&|call| call.sums_len = n as usize)));
+    calls.extend(smaller(call.place).map(|n| with(&|call| call.place = n)));
+    calls.extend(smaller(call.budget).map(|n| with(&|call| call.budget = n)));
+    calls.extend(smaller_states(call.from).map(|from| with(&|call| call.from = from)));
+    calls
 }
 
 fn each<T>(inputs: impl IntoIterator<Item = T>, make: impl Fn(T) -> Call) -> Vec<Call> {

@@ -17,6 +17,8 @@ use crate::shuffle_line::{
     fill_numbers, filled, partial_numbers, partially_shuffled, whole_numbers, wholly_shuffled,
 };
 use crate::shuffling::{Shuffling, Whole, partial_shuffle, shuffle};
+use crate::weighing;
+use crate::weights_line::Weighing;
 use crate::{State, from_state, state};
 
 /// The size that no list reaches, in bytes: the Rattle program that is given it has room for 262,144.
@@ -39,11 +41,12 @@ pub enum Name {
     PartialShuffle,
     Shuffle,
     SampleFill,
+    WeightedIndex,
 }
 
 impl Name {
     /// All of them, in their order.
-    pub const ALL: [Self; 11] = [
+    pub const ALL: [Self; 12] = [
         Self::SeedFromU64,
         Self::FromSeed,
         Self::NextU64,
@@ -55,6 +58,7 @@ impl Name {
         Self::PartialShuffle,
         Self::Shuffle,
         Self::SampleFill,
+        Self::WeightedIndex,
     ];
 }
 
@@ -72,6 +76,7 @@ impl fmt::Display for Name {
             Self::PartialShuffle => "partial_shuffle",
             Self::Shuffle => "shuffle",
             Self::SampleFill => "sample_fill",
+            Self::WeightedIndex => "weighted_index",
         })
     }
 }
@@ -159,6 +164,8 @@ pub enum Call {
     /// A fill from these numbers, with a buffer filled with 4294967295. The answer is its number, the count of slots filled and the
     /// words read; then the first 20 entries of the buffer, or all where they are fewer, and the hash of all.
     SampleFill(Filling),
+    /// A new table of weights, a change of it, a lookup and a pick. [`Weighing::answer`] says what the answer is.
+    WeightedIndex(Weighing),
 }
 
 impl Call {
@@ -173,14 +180,16 @@ impl Call {
             Self::PartialShuffle { .. } => Name::PartialShuffle,
             Self::Shuffle(_) => Name::Shuffle,
             Self::SampleFill(_) => Name::SampleFill,
+            Self::WeightedIndex(_) => Name::WeightedIndex,
         }
     }
 
-    /// The calls that the line makes: each word and each draw is one.
+    /// The calls that the line makes: each word and each draw is one, and a table has four.
     #[must_use]
     pub fn calls(&self) -> u64 {
         match *self {
             Self::Read { count, .. } => count,
+            Self::WeightedIndex(_) => 4,
             _ => 1,
         }
     }
@@ -199,6 +208,7 @@ impl Call {
             Self::PartialShuffle { ref shuffling, at } => partial_numbers(shuffling, at),
             Self::Shuffle(ref whole) => whole_numbers(whole),
             Self::SampleFill(ref filling) => fill_numbers(filling),
+            Self::WeightedIndex(ref weighing) => weighing.numbers(),
         }
     }
 
@@ -220,11 +230,12 @@ impl Call {
             Self::SampleFill(ref filling) => {
                 filled(filling, |items, buf| sample_fill(filling.from, items, buf))
             }
+            Self::WeightedIndex(ref weighing) => weighing.answer(&weighing::RAND),
             _ => self.answer_by(&RAND),
         }
     }
 
-    /// The answer of rand's generator with these draws in place of rand's. Shuffles and fills keep rand's own.
+    /// The answer of rand's generator with these draws in place of rand's. Shuffles, fills and tables keep rand's own.
     #[must_use]
     pub fn answer_by(&self, draws: &Draws) -> Vec<u64> {
         let (mut numbers, after) = match *self {
@@ -246,7 +257,10 @@ impl Call {
                     sampling.end_by(drawing, indices, scratch)
                 });
             }
-            Self::PartialShuffle { .. } | Self::Shuffle(_) | Self::SampleFill(_) => {
+            Self::PartialShuffle { .. }
+            | Self::Shuffle(_)
+            | Self::SampleFill(_)
+            | Self::WeightedIndex(_) => {
                 return self.answer();
             }
         };

@@ -14,6 +14,7 @@ pub mod sampling;
 pub mod shuffle_line;
 pub mod shuffling;
 pub mod weighing;
+pub mod weights_line;
 pub mod words;
 
 use std::convert::Infallible;

@@ -21,6 +21,23 @@ pub type Changed = Result<(), u64>;
 /// What a lookup answers: the weight if there is one, or the number of the refusal.
 pub type Looked = Result<Option<u32>, u64>;
 
+/// A way to make each of the four calls: rand's, the port's, or one with a fault in it.
+#[derive(Clone, Copy)]
+pub struct Calls {
+    pub new: fn(&[u32], &mut [u32]) -> Made,
+    pub update_weights: fn(&mut Record, &mut [u32], &[u64], &[u32]) -> Changed,
+    pub weight: fn(Record, &[u32], u64) -> Looked,
+    pub pick: fn(State, Record, &[u32], u64) -> Ended,
+}
+
+/// rand's calls.
+pub const RAND: Calls = Calls {
+    new,
+    update_weights,
+    weight,
+    pick,
+};
+
 /// rand's error where a call is refused with this number.
 ///
 /// # Panics

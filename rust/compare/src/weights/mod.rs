@@ -17,11 +17,6 @@ pub mod random;
 mod smaller;
 mod tables;
 
-use reference::State;
-use reference::plain_list::Record;
-use reference::sampling::Ended;
-use reference::weighing::{self, Changed, Looked, Made};
-
 use crate::slices::Lent;
 
 pub use change::Change;
@@ -29,24 +24,9 @@ pub use history::History;
 pub use lookup::Lookup;
 pub use new::New;
 pub use pick::Pick;
+pub use reference::weighing::{Calls, RAND};
+pub use smaller::lists;
 pub use tables::Table;
-
-/// A way to make each of the four calls: rand's, the port's, or one with a fault in it.
-#[derive(Clone, Copy)]
-pub struct Calls {
-    pub new: fn(&[u32], &mut [u32]) -> Made,
-    pub update_weights: fn(&mut Record, &mut [u32], &[u64], &[u32]) -> Changed,
-    pub weight: fn(Record, &[u32], u64) -> Looked,
-    pub pick: fn(State, Record, &[u32], u64) -> Ended,
-}
-
-/// rand's calls.
-pub const RAND: Calls = Calls {
-    new: weighing::new,
-    update_weights: weighing::update_weights,
-    weight: weighing::weight,
-    pick: weighing::pick,
-};
 
 /// The port's calls.
 pub const PORT: Calls = Calls {
