@@ -1,5 +1,5 @@
-//! Long mixed runs: one generator carried through many samples, shuffles, fills and picks, so that a generator left in the wrong place
-//! shows in all that follows.
+//! Long mixed runs: one generator carried through many samples, shuffles, fills and picks, so that a generator left in the wrong
+//! place shows in all that follows.
 
 use reference::filling::{Filling, sample_fill};
 use reference::plain_list::Record;

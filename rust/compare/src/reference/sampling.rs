@@ -15,7 +15,7 @@ const AMOUNT_EXCEEDS_LENGTH: u64 = 1;
 pub(crate) const SLICE_TOO_SHORT: u64 = 8;
 const SCRATCH_TOO_SHORT: u64 = 9;
 pub(crate) const TOO_LONG: u64 = 10;
-pub(crate) const ZERO_STATE: u64 = 12;
+pub const ZERO_STATE: u64 = 12;
 
 /// What `sample` is given, but for the entries of its two slices.
 #[derive(Clone, Debug, PartialEq, Eq)]

@@ -307,6 +307,7 @@ mod tests {
         assert_eq!(changed, Err(Error::InsufficientNonZero));
         let (table, changed) = overflowing(&[0, 2], &[(0, greatest)]);
         assert_eq!((changed, table.total_weight()), (Ok(()), 1));
+        assert_eq!(table.weight(0), Some(u32::MAX));
         let (table, changed) = overflowing(&[0, 1], &[(0, greatest), (1, &0)]);
         assert_eq!((changed, table.total_weight()), (Ok(()), u32::MAX));
         assert!(table.weights().eq([u32::MAX, 0]));

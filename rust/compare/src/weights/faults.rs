@@ -12,6 +12,9 @@ use super::{Calls, PORT, port};
 /// A sum equal to the drawn number picks its own item.
 pub const EQUAL_SUM: &str = "equal-sum";
 
+/// A pick that searches one entry more than there are sums, where it is lent.
+pub const ENTRY_PAST: &str = "entry-past";
+
 /// The last sum, which is the total, is written behind the others where an entry is lent for it.
 pub const LAST_SUM: &str = "last-sum";
 
@@ -32,6 +35,7 @@ pub fn planted(plant: Option<&str>) -> Calls {
     let mut calls = PORT;
     match plant {
         Some(EQUAL_SUM) => calls.pick = equal_sum,
+        Some(ENTRY_PAST) => calls.pick = entry_past,
         Some(PICK_WORDS) => calls.pick = pick_words,
         Some(LAST_SUM) => calls.new = last_sum,
         Some(OLD_WEIGHT) => calls.update_weights = old_weight,
@@ -49,6 +53,17 @@ fn equal_sum(from: State, table: Record, lent: &[u32], budget: u64) -> Ended {
         let c = rejecting(&mut from_state(from), table.total_weight).value;
         let sums = &lent[..table.count as usize - 1];
         ended.count = sums.partition_point(|&sum| sum < c) as u64;
+    }
+    ended
+}
+
+/// Fault [`ENTRY_PAST`].
+fn entry_past(from: State, table: Record, lent: &[u32], budget: u64) -> Ended {
+    let mut ended = port::pick(from, table, lent, budget);
+    if ended.number == 0 && ended.count == table.count - 1 {
+        let c = rejecting(&mut from_state(from), table.total_weight).value;
+        let past = lent.get(table.count as usize - 1);
+        ended.count += u64::from(past.is_some_and(|&entry| entry <= c));
     }
     ended
 }

@@ -1,9 +1,10 @@
-//! Histories: a new table, and changes of it one after another, each given what the last accepted call has left, with picks and lookups
-//! between them. rand's table is carried through all of them, and so is the plain list of weights.
+//! Histories: a new table, and changes of it one after another, with picks and lookups between them. Each call is given the record of
+//! the last accepted one and the slice as the last one has left it. rand's table is carried through all of them, and so is the plain
+//! list of weights.
 
 use reference::State;
 use reference::plain_list::{PlainList, Record};
-use reference::sampling::Ended;
+use reference::sampling::{Ended, ZERO_STATE};
 use reference::weighing::{Changed, Held, Looked};
 
 use super::faults;
@@ -26,12 +27,12 @@ enum Step {
     Pick { budget: u64 },
 }
 
-/// The new table's weights, the entries that are lent for sums, the generator of the first pick, and the calls. Each pick goes on with
-/// the generator that the one before has left.
+/// The new table's weights, what is in the slice that is lent for the sums, the generator of the first pick, and the calls. Each pick
+/// goes on with the generator that the one before has left.
 #[derive(Clone, Debug)]
 pub struct Input {
     weights: Vec<u32>,
-    sums_len: usize,
+    lent: Vec<u32>,
     from: State,
     steps: Vec<Step>,
 }
@@ -79,7 +80,7 @@ impl Table for Held {
 
     fn pick(&self, _: &[u32], from: State, budget: u64) -> Ended {
         if from == [0; 4] {
-            return Ended::refused(12, from);
+            return Ended::refused(ZERO_STATE, from);
         }
         self.pick(from, budget)
     }
@@ -130,6 +131,7 @@ impl Kind for History {
     const NAME: &'static str = "WeightedIndex, histories of changes with lookups and picks";
     const FAULTS: &'static [&'static str] = &[
         faults::EQUAL_SUM,
+        faults::ENTRY_PAST,
         faults::LAST_SUM,
         faults::OLD_WEIGHT,
         faults::REFUSAL_WRITES,
@@ -157,15 +159,17 @@ impl Kind for History {
     fn random(source: &mut Source) -> Input {
         let weights = random::weights(source);
         let count = weights.len() as u64;
-        let sums_len = match source.below(64) {
-            0 => source.below(weights.len() as u32) as usize,
-            _ => weights.len() - 1 + source.below(4) as usize,
+        let lent_len = match source.below(64) {
+            0 => source.below(weights.len() as u32),
+            _ => weights.len() as u32 - 1 + source.below(4),
         };
+        // Small ones too, or a call that reads an entry past the sums would find it above all that is drawn.
+        let lent = (0..lent_len).map(|_| random::weight(source)).collect();
         let changes = 1 + source.below(12);
         let steps = (0..changes).flat_map(|_| steps(count, source)).collect();
         Input {
             weights,
-            sums_len,
+            lent,
             from: source.state_or_zero(),
             steps,
         }
@@ -186,8 +190,9 @@ impl Kind for History {
             from,
             ..input.clone()
         });
-        let slices = input.sums_len.checked_sub(1).map(|sums_len| Input {
-            sums_len,
+        let slices = smaller::lists(&input.lent).into_iter();
+        let slices = slices.map(|lent| Input {
+            lent,
             ..input.clone()
         });
         let changes = smaller_changes(input);
@@ -201,7 +206,7 @@ impl Kind for History {
 
     /// The new table, and all that follows where there is one.
     fn calls(input: &Input) -> u64 {
-        let is_made = PlainList::new(&input.weights, input.sums_len).is_ok();
+        let is_made = PlainList::new(&input.weights, input.lent.len()).is_ok();
         1 + if is_made { input.steps.len() as u64 } else { 0 }
     }
 
@@ -225,7 +230,7 @@ impl Kind for History {
 impl Input {
     /// What is seen of the history of the table that `new` makes.
     fn play<T: Table>(&self, new: impl FnOnce(&[u32], &mut [u32]) -> Result<T, u64>) -> Answer {
-        let mut sums = Lent::new(self.sums_len);
+        let mut sums = Lent::of(&self.lent);
         let mut steps = Vec::new();
         let mut table = new(&self.weights, sums.entries());
         let record = match &table {
@@ -278,7 +283,11 @@ fn short(weights: &[u32], number: u64, changes: &[(&[u64], &[u32])]) -> Input {
     });
     Input {
         weights: weights.to_vec(),
-        sums_len: weights.len() + 1,
+        lent: [0, 7, u32::MAX]
+            .into_iter()
+            .cycle()
+            .take(weights.len() + 1)
+            .collect(),
         from: some_state(number),
         steps: steps.collect(),
     }

@@ -40,11 +40,11 @@ fn a_new_table_has_at_most_so_many_weights() {
     let sums = without_memory(MOST);
     assert_eq!(new(weights, sums), Err(10));
     assert_eq!(new(weights, &mut []), Err(10));
-    let weights = &mut weights[..MOST];
-    assert_eq!(new(weights, &mut sums[..MOST - 2]), Err(8));
-    assert_eq!(new(weights, &mut sums[..MOST - 1]), Err(4));
+    assert_eq!(new(&weights[..MOST], &mut sums[..MOST - 2]), Err(8));
+    assert_eq!(new(&weights[..MOST], &mut sums[..MOST - 1]), Err(4));
     (weights[0], weights[MOST - 1]) = (1, u32::MAX);
-    assert_eq!(new(weights, sums), Err(3));
+    assert_eq!(new(weights, sums), Err(10));
+    assert_eq!(new(&weights[..MOST], sums), Err(3));
     assert_eq!((sums[0], sums[MOST - 1]), (0, 0));
 }
 

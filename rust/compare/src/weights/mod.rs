@@ -1,6 +1,6 @@
-//! The table of weights. What is compared is the answer, the record, the words read, the generator afterwards, and the whole slice of
-//! the sums, with entries past them and around the slice that no call may change. Every answer is held to the plain list of weights,
-//! and to rand's table but where the Rust has no such call.
+//! The table of weights. What is compared is the answer, the record, the words read, the generator afterwards, and the whole slice
+//! of the sums, with entries past them and around the slice that no call may change. Every answer is held to the plain list of
+//! weights, and to rand's table but where the Rust has no such call.
 
 mod change;
 #[cfg(test)]
