@@ -62,7 +62,7 @@ sub-next : tie.Need-sub-next Inv-loop μ-loop
 sub-next c =
     let s = c .before .before .before .before .before .before .before .before .before .before in
     let l = c .before .before .before .before .before .loop in
-    old-fits (held s) (now (s .args .places)) (now (s .args .weights)) (l .running) (l .least) (l .j) (l .inv .3) (omega arith) (c .before .before .if1 .left) (omega (arith, l .inv .2)) (c .weight-at .result) (c .weight-at .ensures)
+    omega (arith, old-fits (held s) (now (s .args .places)) (now (s .args .weights)) (l .running) (l .least) (l .j) (l .inv .3) (omega arith) (c .before .before .if1 .left) (omega (arith, l .inv .2)) (c .weight-at .result) (c .weight-at .ensures))
 
 mul-next : tie.Need-mul-next Inv-loop μ-loop
 mul-next c = search needs
