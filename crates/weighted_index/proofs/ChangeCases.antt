@@ -14,7 +14,7 @@ use Rattle.refusal.specs.declared.Refusal.{Refusal}
 use Rattle.refusal.specs.declared.Refusal.the-variants.{InvalidTable, SliceTooShort, TooLong}
 use Rattle.weighted_index.specs.Weights.{mostWeights, total}
 use Rattle.weighted_index.specs.Tables.{heldSums, brokenTable, heldWeights}
-use Rattle.weighted_index.specs.Answers.{Making, refuses}
+use Rattle.weighted_index.specs.Answers.{refuses}
 use Rattle.weighted_index.specs.New.{makes}
 use Rattle.weighted_index.specs.Change.{replaced, itemsRefusal, listsRefusal, settled, updateOf, answerOfChecked, checkedAs, checkOf}
 use Rattle.weighted_index.specs.declared.answer.WeightedIndex.{WeightedIndex}

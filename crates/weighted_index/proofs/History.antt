@@ -10,11 +10,11 @@ use lib.Dec.{ltb, eqb}
 use lib.ListN.{length, drop}
 use lib.Seq.{take-at, drop-at}
 use borrow.Author.Tests.{ltb-false}
-use Rattle.refusal.specs.Answer.{Answer, done, declined}
+use Rattle.refusal.specs.Answer.{done, declined}
 use Rattle.refusal.specs.declared.Refusal.{Refusal}
 use Rattle.refusal.specs.declared.Refusal.the-variants.{NoWeights, Overflow, InsufficientNonZero, SliceTooShort, TooLong}
 use Rattle.weighted_index.specs.Weights.{mostWeights, mostTotal, total, overflows, allZero, sumsFrom}
-use Rattle.weighted_index.specs.Tables.{tableOf, heldSums, sumsOf, heldWeights, brokenTable}
+use Rattle.weighted_index.specs.Tables.{tableOf, heldSums, heldWeights, brokenTable}
 use Rattle.weighted_index.specs.Answers.{Making, refuses}
 use Rattle.weighted_index.specs.New.{makes, newOf}
 use Rattle.weighted_index.specs.Change.{replaced, itemsRefusal, tooLong, listsRefusal, settled, updateOf}

@@ -1,7 +1,7 @@
 -- The checks of a change's items, one law for each case, and what accepted items are.
 -- Assumes nothing.
 use mathlib.Core.Path.{_≡_, refl, sym, _∙_}
-use mathlib.Core.Bool.{Bool, true, false, cond}
+use mathlib.Core.Bool.{Bool, true, false}
 use mathlib.Core.List.{List, [], _∷_}
 use mathlib.Core.Option.{Option, none, some}
 use Prim.Native.Nat.{ℕ, suc, _≤_, _<_}
@@ -11,7 +11,7 @@ use lib.ListN.{length, getD, set, length-set}
 use borrow.Author.Tests.{lt-ltb, le-ltb, le-leb, lt-leb, ltb-true, ltb-false, leb-true, leb-false}
 use Rattle.refusal.specs.declared.Refusal.{Refusal}
 use Rattle.refusal.specs.declared.Refusal.the-variants.{Overflow, InsufficientNonZero, PlacesNotIncreasing, PlaceOutOfRange}
-use Rattle.weighted_index.specs.Weights.{mostTotal, total, allZero}
+use Rattle.weighted_index.specs.Weights.{mostTotal, total}
 use Rattle.weighted_index.specs.Change.{replaced, itemsRefusal}
 use Rattle.weighted_index.proofs.Totals.{too-much, not-too-much, all-zero, not-all-zero}
 

@@ -1,15 +1,15 @@
 -- The definition of `sample`, one law for each of its cases, and the pick that a draw makes.
 -- Assumes nothing.
-use mathlib.Core.Path.{_≡_, refl, sym, ap, _∙_}
+use mathlib.Core.Path.{_≡_, ap, _∙_}
 use mathlib.Core.Bool.{true, false}
-use mathlib.Core.List.{List, [], _∷_}
+use mathlib.Core.List.{List}
 use Prim.Native.Nat.{ℕ, _-_, _%_, _^_, _≤_, _<_}
 use native.Mathlib.Nat.{sub-zero}
 use borrow.Author.Tests.{lt-ltb, le-ltb}
 use Rattle.refusal.specs.declared.Refusal.the-variants.{InvalidTable, TooLong, ZeroState, BudgetExhausted}
 use Rattle.xoshiro256plusplus.specs.Generator.{zeroState, word}
 use Rattle.xoshiro256plusplus.specs.declared.Xoshiro256PlusPlus.{Xoshiro256PlusPlus}
-use Rattle.uniform_int.specs.Rejecting.{Drawing, shown, rejectingAt, rejecting}
+use Rattle.uniform_int.specs.Rejecting.{shown, rejectingAt, rejecting}
 use Rattle.uniform_int.specs.declared.Draw.the-variants.{Value, Spent}
 use Rattle.uniform_int.specs.declared.Sampled.{Sampled}
 use Rattle.uniform_int.specs.declared.UniformInt.{UniformInt}

@@ -1,6 +1,6 @@
 -- The shares of a pick after any history of changes, over any number of words, and at 32 bits.
 -- Assumes nothing.
-use mathlib.Core.Path.{_≡_, refl, sym, ap, _∙_}
+use mathlib.Core.Path.{_≡_, ap, _∙_}
 use mathlib.Core.Bool.{not, _&&_}
 use mathlib.Core.List.{List}
 use Prim.Native.Nat.{ℕ, _+_, _*_, _/_, _%_, _^_, _<_}
@@ -15,10 +15,10 @@ use Rattle.counting.proofs.Counts.{count-cong}
 use Rattle.uniform_int.specs.Rejecting.{accepts, scaled}
 use Rattle.uniform_int.proofs.Shares.{draw-shares}
 use Rattle.weighted_index.specs.Weights.{total, sumsFrom, firstAbove}
-use Rattle.weighted_index.specs.Tables.{tableOf, heldSums, sumsOf}
+use Rattle.weighted_index.specs.Tables.{tableOf, heldSums}
 use Rattle.weighted_index.specs.Pick.{itemAt, stops, picks}
 use Rattle.weighted_index.specs.WholeTables.{TableOf}
-use Rattle.weighted_index.specs.History.{Change, Run, plainWeights, callsRun, plainRun, History}
+use Rattle.weighted_index.specs.History.{Change, Run, plainWeights, plainRun, History}
 use Rattle.weighted_index.specs.Shares.{pickShare, dropShare, PickShares}
 use Rattle.weighted_index.specs.declared.answer.WeightedIndex.{WeightedIndex}
 use Rattle.weighted_index.proofs.History.{history, fine-end, its-table}

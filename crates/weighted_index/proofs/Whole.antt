@@ -1,15 +1,15 @@
 -- A table that is not broken.
 -- Assumes nothing.
-use mathlib.Core.Path.{_≡_, refl, sym, ap, _∙_}
+use mathlib.Core.Path.{_≡_, refl, sym, _∙_}
 use mathlib.Core.Bool.{Bool, true, false, not, _||_}
 use mathlib.Core.List.{List}
 use Prim.Native.Nat.{ℕ, _+_, _-_, _≤_, _<_}
 use native.Mathlib.Omega.{arith}
 use lib.Dec.{ltb, eqb}
-use lib.ListN.{length, getD}
+use lib.ListN.{length}
 use lib.Seq.{length-take-le}
 use borrow.Author.Tests.{ltb-false, le-ltb, eqb-false, ne-eqb}
-use Rattle.counting.proofs.Tests.{or-false, false-or}
+use Rattle.counting.proofs.Tests.{or-false}
 use Rattle.weighted_index.specs.Rising.{rises}
 use Rattle.weighted_index.specs.Weights.{total}
 use Rattle.weighted_index.specs.Tables.{sumsOf, heldWeights, falls, exceeds, brokenTable}

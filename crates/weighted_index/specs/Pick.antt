@@ -1,9 +1,9 @@
 -- What `sample` answers (document 01: pick), and which words pick an item.
-use mathlib.Core.Bool.{Bool, not, cond, _&&_}
+use mathlib.Core.Bool.{Bool, cond, _&&_}
 use mathlib.Core.List.{List, map}
 use Prim.Native.Nat.{ℕ, _%_}
 use lib.Dec.{ltb, eqb}
-use Rattle.refusal.specs.Answer.{Answer, declined}
+use Rattle.refusal.specs.Answer.{declined}
 use Rattle.refusal.specs.declared.Refusal.{Refusal}
 use Rattle.refusal.specs.declared.Refusal.the-variants.{InvalidTable, TooLong, ZeroState}
 use Rattle.xoshiro256plusplus.specs.Generator.{zeroState}

@@ -1,13 +1,12 @@
 -- `write_sums` meets its contract. The invariant is `Writing`. Assumes nothing.
-use mathlib.Core.Path.{_≡_, refl, sym, ap, _∙_, subst}
+use mathlib.Core.Path.{_≡_, sym, subst}
 use mathlib.Core.List.{List, _∷_}
-use Prim.Native.Nat.{ℕ, suc, _+_, _-_, _≤_}
+use Prim.Native.Nat.{ℕ, suc, _+_, _-_}
 use native.Mathlib.Numerals.{add-one}
 use native.Mathlib.Omega.{arith}
 use denote.Ref.{now}
 use lib.ListN.{length, drop, getD, set}
 use lib.Seq.{drop-cons}
-use Rattle.weighted_index.specs.Weights.{total}
 use Rattle.weighted_index.proofs.Totals.{total-cons}
 use Rattle.weighted_index.proofs.Writing.{Writing, begin, turn, finish}
 use borrow.Author.Needs.{needs}

@@ -1,9 +1,8 @@
 -- `partition_point` meets its contract: the place that is sought stays between low and high. Assumes nothing.
-use mathlib.Core.Path.{_≡_, refl, sym, ap, _∙_}
-use Prim.Native.Nat.{ℕ, _+_, _-_, _/_, _≤_, _<_}
+use Prim.Native.Nat.{ℕ, _+_, _-_, _/_, _≤_}
 use native.Mathlib.Omega.{arith}
 use denote.Ref.{now}
-use lib.ListN.{length, take, getD}
+use lib.ListN.{take}
 use lib.Seq.{length-take-le, getD-take}
 use Rattle.weighted_index.specs.Weights.{firstAbove}
 use Rattle.weighted_index.proofs.Search.{first-most, first-upper, first-lower}

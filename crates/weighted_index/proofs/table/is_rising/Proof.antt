@@ -1,11 +1,11 @@
 -- `is_rising` meets its contract: the sums left, from the last one on, decide. Assumes nothing.
 use mathlib.Core.Path.{_≡_, refl, sym, ap, _∙_}
 use mathlib.Core.List.{List, [], _∷_}
-use Prim.Native.Nat.{ℕ, suc, _+_, _-_, _≤_, _<_}
+use Prim.Native.Nat.{ℕ, suc, _-_, _≤_}
 use native.Mathlib.Numerals.{add-one}
 use native.Mathlib.Omega.{arith}
 use denote.Ref.{now}
-use lib.ListN.{length, take, drop, getD, drop-of-length-le}
+use lib.ListN.{take, drop, getD, drop-of-length-le}
 use lib.Seq.{length-take-le, getD-take, drop-cons}
 use Rattle.weighted_index.specs.Rising.{rises}
 use Rattle.weighted_index.proofs.Rising.{rises-nil, rises-falls, rises-goes}

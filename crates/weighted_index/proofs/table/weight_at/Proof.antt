@@ -1,6 +1,4 @@
 -- `weight_at` meets its contract: a law for each kind of place. Assumes nothing.
-use mathlib.Core.Path.{_≡_, refl, sym, ap, _∙_}
-use Prim.Native.Nat.{ℕ, _-_, _≤_, _<_}
 use native.Mathlib.Omega.{arith}
 use denote.Ref.{now}
 use Rattle.weighted_index.proofs.Whole.{Whole, whole}

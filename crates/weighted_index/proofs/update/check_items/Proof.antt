@@ -1,7 +1,7 @@
 -- `check_items` meets its contract. The invariant is `Checking`. Assumes nothing.
 use mathlib.Core.Path.{_≡_, refl, sym}
 use mathlib.Core.List.{List}
-use Prim.Native.Nat.{ℕ, _+_, _-_, _≤_, _<_}
+use Prim.Native.Nat.{ℕ, _-_}
 use native.Mathlib.Omega.{arith}
 use denote.Ref.{now}
 use lib.ListN.{length}
@@ -62,7 +62,7 @@ sub-next : tie.Need-sub-next Inv-loop μ-loop
 sub-next c =
     let s = c .before .before .before .before .before .before .before .before .before .before in
     let l = c .before .before .before .before .before .loop in
-    old-fits (held s) (now (s .args .places)) (now (s .args .weights)) (l .running) (l .least) (l .j) (l .inv .3) (omega arith) (c .before .before .if1 .left) (omega (arith, l .inv .2)) (c .weight-at .result) (c .weight-at .ensures)
+    omega (arith, old-fits (held s) (now (s .args .places)) (now (s .args .weights)) (l .running) (l .least) (l .j) (l .inv .3) (omega arith) (c .before .before .if1 .left) (omega (arith, l .inv .2)) (c .weight-at .result) (c .weight-at .ensures))
 
 mul-next : tie.Need-mul-next Inv-loop μ-loop
 mul-next c = search needs

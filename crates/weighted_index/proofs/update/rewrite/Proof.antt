@@ -1,11 +1,11 @@
 -- `rewrite` meets its contract. The invariant is `Rewriting`; the loop does not use the table, so that it holds at any total. Assumes nothing.
-use mathlib.Core.Path.{_≡_, refl, sym, ap, _∙_, subst}
+use mathlib.Core.Path.{sym, _∙_, subst}
 use mathlib.Core.Logic.{⊎-elim}
 use mathlib.Core.List.{List}
-use Prim.Native.Nat.{ℕ, _+_, _-_, _≤_, _<_}
+use Prim.Native.Nat.{ℕ, _+_, _-_, _≤_}
 use native.Mathlib.Omega.{arith}
 use denote.Ref.{now}
-use lib.ListN.{length, getD}
+use lib.ListN.{getD}
 use Rattle.weighted_index.specs.Tables.{heldWeights}
 use Rattle.weighted_index.proofs.Whole.{whole, held-length, held-total}
 use Rattle.weighted_index.proofs.Items.{ordered, small, first-inside}

@@ -1,6 +1,5 @@
 -- `update_weights` meets its contract: a law for each case of the definition. Assumes nothing.
 use mathlib.Core.Path.{sym, _∙_}
-use native.Mathlib.Omega.{arith}
 use denote.Ref.{now}
 use Rattle.weighted_index.specs.Answers.{refuses}
 use Rattle.weighted_index.specs.Tables.{heldWeights}
