@@ -1,7 +1,7 @@
 -- Sums that never fall and end at most at the total.
 -- Assumes nothing.
 use mathlib.Core.Path.{_≡_, refl}
-use mathlib.Core.Bool.{true, false}
+use mathlib.Core.Bool.{Bool, true, false, _&&_}
 use mathlib.Core.List.{List, [], _∷_}
 use Prim.Native.Nat.{ℕ, zero, suc, _≤_, _<_}
 use native.Mathlib.Omega.{arith}
@@ -16,13 +16,11 @@ pub rises-nil : (low all : ℕ) → rises low [] all ≡ leb low all
 unfolding rises
 rises-nil low all = refl
 
-pub rises-falls : (low x : ℕ) (xs : List ℕ) (all : ℕ) → x < low → rises low (x ∷ xs) all ≡ false
+-- the first sum is tested, and the others are left; `before` is what the tests so far came to
+pub rises-turn : (before : Bool) (low x : ℕ) (xs : List ℕ) (all : ℕ) → (before && rises low (x ∷ xs) all) ≡ ((before && leb low x) && rises x xs all)
 unfolding rises
-rises-falls low x xs all h = rw (lt-leb low x h)
-
-pub rises-goes : (low x : ℕ) (xs : List ℕ) (all : ℕ) → low ≤ x → rises low (x ∷ xs) all ≡ rises x xs all
-unfolding rises
-rises-goes low x xs all h = rw (le-leb low x h)
+rises-turn true low x xs all = refl
+rises-turn false low x xs all = refl
 
 pub rises-head : (low x : ℕ) (xs : List ℕ) (all : ℕ) → rises low (x ∷ xs) all ≡ true → (low ≤ x) × (rises x xs all ≡ true)
 unfolding rises
