@@ -7,21 +7,21 @@ use Rattle.weighted_index.specs.Answers.{answerOfMade, answerOfLooked, answerOf
 use Rattle.weighted_index.specs.declared.answer.Outcome.{Outcome}
 use Rattle.weighted_index.specs.declared.answer.Lookup.{Lookup}
 use Rattle.weighted_index.specs.declared.answer.Picked.{Picked}
-use Rattle.capi.specs.State.{words}
-use Rattle.capi.specs.Weights.{tableAfter, optional, valueOr0, made, looked, chosen}
+use Rattle.capi.specs.State.{words, valueOr0, optional}
+use Rattle.capi.specs.Weights as weights
 
-pub packed-made : (number : ℕ) (table before : List ℕ) (m : Outcome) (sums : List ℕ) → number ≡ answerOfMade (m .answer) .number → table ≡ tableAfter (answerOfMade (m .answer)) before
-    → record { number = number; table = table; «cumulative_weights» = sums } ≡ made before (ended m sums)
-unfolding made
+pub packed-made : (number : ℕ) (table before : List ℕ) (m : Outcome) (sums : List ℕ) → number ≡ answerOfMade (m .answer) .number → table ≡ weights.tableAfter (answerOfMade (m .answer)) before
+    → record { number = number; table = table; «cumulative_weights» = sums } ≡ weights.made before (ended m sums)
+unfolding weights.made
 packed-made number table before m sums e f = rw (e, f)
 
 pub packed-looked : (number : ℕ) (out : List ℕ) (l : Lookup) → number ≡ answerOfLooked (l .answer) .number → out ≡ optional (answerOfLooked (l .answer))
-    → record { number = number; out = out } ≡ looked (replied l)
-unfolding looked
+    → record { number = number; out = out } ≡ weights.looked (replied l)
+unfolding weights.looked
 packed-looked number out l e f = rw (e, f)
 
-pub packed-chosen : (number : ℕ) (state out : List ℕ) (p : Picked) (index : ℕ) → number ≡ answerOfChoice (p .answer) .number → state ≡ words (p .rng)
+pub packed-pick : (number : ℕ) (state out : List ℕ) (p : Picked) (index : ℕ) → number ≡ answerOfChoice (p .answer) .number → state ≡ words (p .rng)
     → out ≡ p .words ∷ index ∷ [] → index ≡ valueOr0 (answerOfChoice (p .answer))
-    → record { number = number; state = state; out = out } ≡ chosen (picked p)
-unfolding chosen
-packed-chosen number state out p index e f g h = rw (e, f, g, h)
+    → record { number = number; state = state; out = out } ≡ weights.picked (picked p)
+unfolding weights.picked
+packed-pick number state out p index e f g h = rw (e, f, g, h)

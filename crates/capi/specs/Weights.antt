@@ -4,14 +4,14 @@ use mathlib.Core.Bool.{true, cond}
 use mathlib.Core.List.{List, [], _∷_}
 use Prim.Native.Nat.{ℕ, _<_, _≤_}
 use lib.Dec.{ltb, eqb}
-use lib.ListN.{length, getD}
+use lib.ListN.{getD}
 use Rattle.refusal.specs.Answer.{Answer}
 use Rattle.uniform_int.specs.Rejecting.{Drawing}
 use Rattle.weighted_index.specs.Answers.{Reply, Making}
 use Rattle.weighted_index.specs.Tables.{brokenTable}
 use Rattle.weighted_index.specs.Weights.{mostTotal}
 use Rattle.weighted_index.specs.declared.answer.WeightedIndex.{WeightedIndex}
-use Rattle.capi.specs.State.{words}
+use Rattle.capi.specs.State.{words, Drawn, valueOr0, optional}
 
 -- ---- what a record is
 
@@ -38,31 +38,18 @@ tableAfter a before = cond (eqb (a .number) 0) (a .values) before
 unfoldable pub made : (before : List ℕ) → Making → Made
 made before m = record { number = m .answer .number; table = tableAfter (m .answer) before; «cumulative_weights» = m .sums }
 
--- an answer's one value, and 0 where there is none
-abbrev pub valueOr0 : Answer → ℕ
-valueOr0 a = getD (a .values) 0 0
-
 -- of a lookup
 pub record Looked : Type 0 where
   pub number : ℕ
   pub out : List ℕ
 
--- 1 and the value, or 0 and 0 where there is none
-abbrev pub optional : Answer → List ℕ
-optional a = length (a .values) ∷ valueOr0 a ∷ []
-
+-- the number of the answer, and 1 and the weight, or 0 and 0
 unfoldable pub looked : Reply → Looked
 looked r = record { number = r .answer .number; out = optional (r .answer) }
 
--- of a pick
-pub record Chosen : Type 0 where
-  pub number : ℕ
-  pub state : List ℕ
-  pub out : List ℕ
-
--- the number of the answer, the generator, and the words read and then the index, which is 0 on a refusal
-unfoldable pub chosen : Drawing → Chosen
-chosen d = record { number = d .answer .number; state = words (d .rng); out = d .words ∷ valueOr0 (d .answer) ∷ [] }
+-- of a pick: the number of the answer, the generator, and the words read and then the index, which is 0 on a refusal
+unfoldable pub picked : Drawing → Drawn
+picked d = record { number = d .answer .number; state = words (d .rng); out = d .words ∷ valueOr0 (d .answer) ∷ [] }
 
 -- ---- a total that no record has
 

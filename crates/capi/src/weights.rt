@@ -1,7 +1,7 @@
 // Tables of weights. A record passes as an array: its count, then its total.
 ghost use mathlib.Core.Path.{_≡_};
-ghost use Rattle.capi.specs.State.{generator};
-ghost use Rattle.capi.specs.Weights.{recordOf, tableAfter, optional, valueOr0, made, looked, chosen};
+ghost use Rattle.capi.specs.State.{generator, valueOr0, optional};
+ghost use Rattle.capi.specs.Weights.{recordOf, tableAfter, made, looked, picked};
 ghost use Rattle.weighted_index.specs.Answers.{answerOfMade, answerOfLooked, answerOfChoice};
 ghost use Rattle.weighted_index.specs.Change.{updateOf};
 ghost use Rattle.weighted_index.specs.Lookup.{weightOf};
@@ -136,7 +136,7 @@ pub extern "C" fn gapyndura_weights_weight(
     store_looked(answer, out)
 }
 
-// `sample` of a table for C: the definition `pickOf` of the record `recordOf`, written out as `chosen` says.
+// `sample` of a table for C: the definition `pickOf` of the record `recordOf`, written out as `picked` says.
 #[no_mangle]
 pub extern "C" fn gapyndura_weights_pick(
     state: &mut [u64; 4],
@@ -145,7 +145,7 @@ pub extern "C" fn gapyndura_weights_pick(
     budget: u64,
     out: &mut [u64; 2],
 ) -> u32
-    ensures { λ r. ⌜ record { number = r; state = now (state .exit); out = now (out .exit) } ≡ chosen (pickOf (generator (now (state .entry))) (recordOf (now (table .entry))) (now («cumulative_weights» .entry)) budget) ⌝ }
+    ensures { λ r. ⌜ record { number = r; state = now (state .exit); out = now (out .exit) } ≡ picked (pickOf (generator (now (state .entry))) (recordOf (now (table .entry))) (now («cumulative_weights» .entry)) budget) ⌝ }
 {
     let p = sample(load(*state), load_table(*table), cumulative_weights, budget);
     let rng = p.rng;

@@ -1,7 +1,7 @@
 -- `gapyndura_weights_pick` meets its contract. Assumes nothing.
 use mathlib.Core.Path.{ap, _∙_}
-use Rattle.capi.specs.Weights.{chosen}
-use Rattle.capi.proofs.PackedWeights.{packed-chosen}
+use Rattle.capi.specs.Weights.{picked}
+use Rattle.capi.proofs.PackedWeights.{packed-pick}
 use borrow.Author.Needs.{needs}
 use Rattle.capi.proofs.weights.gapyndura_weights_pick.Statement.{statement}
 use Rattle.capi.proofs.weights.gapyndura_weights_pick.Tie as tie
@@ -29,7 +29,7 @@ returns c =
     let p = c .before .before .before .before .before .before .sample in
     let done = rw (c .before .before .before .before .before .before .before .before .before .load .ensures, c .before .before .before .before .before .before .before .load-table .ensures) at (p .ensures) in
     let told = c .before .report .ensures in
-    packed-chosen _ _ _ (p .result) _ (c .number-of .ensures) (told .0) (told .1) (c .before .before .before .before .index-of .ensures) ∙ ap chosen done
+    packed-pick _ _ _ (p .result) _ (c .number-of .ensures) (told .0) (told .1) (c .before .before .before .before .index-of .ensures) ∙ ap picked done
 
 pub gapyndura-weights-pick-spec : {M : Type 1} → statement M
 gapyndura-weights-pick-spec =
