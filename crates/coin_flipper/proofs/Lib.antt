@@ -1,0 +1,3 @@
+pub mod Chunk
+pub mod Asking
+pub mod Heads
