@@ -24,10 +24,6 @@ ratio d n (c ∷ cs) =
     (cond (leb (2 * n) d) (settled false cs) (ratio d (2 * n - d) cs)))
     (settled true (c ∷ cs))
 
--- one-over-d: n starts at 1
-unfoldable pub oneOver : (d : ℕ) → List Bool → Row
-oneOver d cs = ratio d 1 cs
-
 -- whether the next n coins are heads; the first tails settles it
 unfoldable pub heads : (n : ℕ) → List Bool → Row
 heads zero cs = settled true cs

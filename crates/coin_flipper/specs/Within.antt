@@ -58,6 +58,6 @@ headsWithin n budget s = within heads n budget s
 abbrev pub ratioWithin : (d n budget : ℕ) → Coins → Flipping
 ratioWithin d n budget s = within (ratio d) n budget s
 
--- one-over-d
+-- one-over-d: n starts at 1
 unfoldable pub oneOverWithin : (d budget : ℕ) → Coins → Flipping
 oneOverWithin d budget s = ratioWithin d 1 budget s
