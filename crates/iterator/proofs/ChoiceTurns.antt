@@ -1,7 +1,7 @@
 -- The two turns of a choice, as the code takes them.
 -- Assumes nothing.
 use mathlib.Core.Path.{_≡_, refl, sym, ap, _∙_}
-use mathlib.Core.Bool.{true, false}
+use mathlib.Core.Bool.{true, false, false≢true}
 use mathlib.Core.List.{List, [], _∷_}
 use Prim.Native.Nat.{ℕ, zero, suc, _+_, _-_, _≤_, _<_}
 use native.Mathlib.Nat.{add-zero}
@@ -50,6 +50,11 @@ some-number BudgetExhausted = refl
 -- what is held, where it is no refusal
 pub holds : (c : Choice) → answerOfChoice c .number ≡ 0 → answerOfChoice c ≡ done (answerOfChoice c .values)
 holds c e = rw (sym e)
+
+-- a number that is not 0
+pub above-zero : (n : ℕ) → eqb n 0 ≡ false → (m : ℕ) × (n ≡ suc m)
+above-zero zero e = absurd (false≢true (sym e))
+above-zero (suc m) e = (m, refl)
 
 -- ---- a coin
 

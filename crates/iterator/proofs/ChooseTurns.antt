@@ -1,27 +1,27 @@
 -- The turns of `choose` where the count of the items is not known from the start, as the code takes them.
 -- Assumes nothing.
 use mathlib.Core.Path.{_≡_, refl, sym, ap, _∙_}
-use mathlib.Core.Bool.{Bool, true, false, cond, _&&_}
-use mathlib.Core.Logic.{_⊎_, ⊎-elim}
+use mathlib.Core.Bool.{true, false, cond}
 use mathlib.Core.List.{List, [], _∷_}
 use Prim.Native.Nat.{ℕ, zero, suc, _+_, _-_, _≤_, _<_}
 use native.Mathlib.Nat.{add-zero, add-suc, suc-add}
-use native.Mathlib.Numerals.{add-one}
 use native.Mathlib.Omega.{arith}
-use lib.Dec.{ltb, eqb}
-use lib.ListN.{length, drop, getD, length-drop, drop-of-length-le}
+use lib.Dec.{eqb}
+use lib.ListN.{length, drop, getD, drop-of-length-le}
 use lib.Seq.{drop-cons, drop-drop}
-use borrow.Author.Tests.{lt-ltb, le-ltb, eq-eqb, ne-eqb}
+use borrow.Author.Tests.{eqb-true}
 use Rattle.refusal.specs.Answer.{done}
 use Rattle.uniform_int.specs.Rejecting.{Drawing}
 use Rattle.coin_flipper.specs.Within.{Coins, Flipping}
 use Rattle.coin_flipper.specs.State.{seen, Held}
 use Rattle.coin_flipper.specs.declared.CoinFlipper.{CoinFlipper}
+use Rattle.coin_flipper.proofs.Laws.{held-more}
 use Rattle.iterator.specs.Turns.{answerOfChoice, turned, ending, after}
 use Rattle.iterator.specs.Choose.{turnOf, drawnLast, chooseFrom}
 use Rattle.iterator.specs.declared.choose.Choice.{Choice}
+use Rattle.iterator.specs.declared.choose.Choice.the-variants.{Nothing}
 use Rattle.iterator.specs.declared.turns.Turn.{Turn}
-use Rattle.iterator.proofs.ChoiceTurns.{holds}
+use Rattle.iterator.proofs.ChoiceTurns.{holds, above-zero}
 use Rattle.iterator.proofs.HintsChecked.{Hinted}
 
 -- items that were drawn for are passed over
@@ -48,6 +48,9 @@ module _ (budget : ℕ) (lower upper items : List ℕ) (s₀ : Coins) where
   abbrev pub Ended : (held : Choice) (f : CoinFlipper) → Type 0
   Ended held f = ending (answerOfChoice held) (seen f) ≡ whole
 
+  pub begin : (f : CoinFlipper) → seen f ≡ s₀ → Held 0 f → Turns 0 Nothing f
+  begin f e h = record { goes = rw e; some = refl; good = held-more 0 budget f (omega arith) h; upto = omega arith }
+
   module _ (p : ℕ) (held : Choice) (f : CoinFlipper) (t : Turns p held f) where
     pub finish : length items ≤ p → Ended held f
     unfolding chooseFrom
@@ -62,32 +65,29 @@ module _ (budget : ℕ) (lower upper items : List ℕ) (s₀ : Coins) where
       turn = sym (t .goes) ∙ rw (drop-cons items p 0 h) (ap (λ (x : Flipping). after x rest) (sym (rw (drop-cons items p 0 h) at e)))
 
       -- the budget ran out
-      pub stop : (m : ℕ) → answerOfChoice (r .held) .number ≡ suc m → Ended (r .held) (r .flipper)
-      stop m n = sym (turn ∙ rw n)
+      pub stop : eqb (answerOfChoice (r .held) .number) 0 ≡ false → Ended (r .held) (r .flipper)
+      stop b = let n = above-zero (answerOfChoice (r .held) .number) b in sym (turn ∙ rw (n .1))
 
-      module _ (n : answerOfChoice (r .held) .number ≡ 0) where
+      module _ (b : eqb (answerOfChoice (r .held) .number) 0 ≡ true) where
+        n : answerOfChoice (r .held) .number ≡ 0
+        n = eqb-true (answerOfChoice (r .held) .number) 0 b
+
         -- the draw was for all that remain
-        pub last : 1 < getD lower p 0 → getD upper p 0 ≡ getD lower p 0 → Ended (r .held) (r .flipper)
-        last l u = rw (holds (r .held) n) (sym (turn ∙ rw (n, lt-ltb 1 (getD lower p 0) l, eq-eqb (getD upper p 0) (getD lower p 0) u)))
+        pub last : drawnLast (getD lower p 0) (getD upper p 0) ≡ true → Ended (r .held) (r .flipper)
+        last d = rw (holds (r .held) n) (sym (turn ∙ rw (n, d)))
 
-        on : drawnLast (getD lower p 0) (getD upper p 0) ≡ false → (k : ℕ) → suc p + (getD lower p 0 - 1) ≡ k
-            → chooseFrom budget lower upper (drop k items) 0 k (answerOfChoice (r .held) .values) (seen (r .flipper)) ≡ whole
-        on d k q =
-            sym
-            (turn
-            ∙ rw (n, d)
-            (skipped budget lower upper (drop (suc p) items) (getD lower p 0 - 1) (suc p) (answerOfChoice (r .held) .values) (seen (r .flipper))
-            ∙ rw (drop-drop (getD lower p 0 - 1) (suc p) items, q)))
-
-        -- a draw for the next `getD lower p 0` items, or a coin for one
-        pub again-draw : Hinted (length items) lower upper → Held budget (r .flipper) → 1 < getD lower p 0 → (getD upper p 0 ≡ getD lower p 0 → ⊥) → Turns (p + getD lower p 0) (r .held) (r .flipper)
-        again-draw i g l u =
+        -- the next turn comes after the items that this one was for
+        pub again : drawnLast (getD lower p 0) (getD upper p 0) ≡ false → Hinted (length items) lower upper → Held budget (r .flipper)
+            → Turns (p + suc (getD lower p 0 - 1)) (r .held) (r .flipper)
+        again d i g =
             record {
-              goes = on (rw (lt-ltb 1 (getD lower p 0) l, ne-eqb (getD upper p 0) (getD lower p 0) u)) (p + getD lower p 0) (omega arith);
+              goes =
+                sym
+                (turn
+                ∙ rw (n, d)
+                (skipped budget lower upper (drop (suc p) items) (getD lower p 0 - 1) (suc p) (answerOfChoice (r .held) .values) (seen (r .flipper))
+                ∙ rw (drop-drop (getD lower p 0 - 1) (suc p) items, add-suc p (getD lower p 0 - 1), suc-add p (getD lower p 0 - 1))));
               some = n;
               good = g;
               upto = omega (arith, i .least p (omega arith));
             }
-
-        pub again-coin : Held budget (r .flipper) → getD lower p 0 ≤ 1 → Turns (p + 1) (r .held) (r .flipper)
-        again-coin g l = record { goes = on (rw (le-ltb 1 (getD lower p 0) l)) (p + 1) (omega arith); some = n; good = g; upto = omega arith }

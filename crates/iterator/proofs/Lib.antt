@@ -6,3 +6,4 @@ pub mod HintsChecked
 pub mod ChoiceTurns
 pub mod StableTurns
 pub mod ChooseTurns
+pub mod ChooseCases

@@ -6,19 +6,22 @@ use mathlib.Core.List.{List, [], _∷_}
 use Prim.Native.Nat.{ℕ, zero, suc, _+_, _-_, _≤_, _<_}
 use native.Mathlib.Numerals.{add-one}
 use native.Mathlib.Omega.{arith}
-use lib.Dec.{ltb}
+use lib.Dec.{ltb, eqb}
 use lib.ListN.{length, drop, getD, drop-of-length-le}
 use lib.Seq.{drop-cons}
+use borrow.Author.Tests.{eqb-true}
 use Rattle.refusal.specs.Answer.{done}
 use Rattle.uniform_int.specs.Rejecting.{Drawing}
 use Rattle.coin_flipper.specs.Within.{Coins, Flipping, oneOverWithin}
 use Rattle.coin_flipper.specs.State.{seen, Held}
 use Rattle.coin_flipper.specs.declared.CoinFlipper.{CoinFlipper}
-use Rattle.iterator.specs.Turns.{answerOfChoice, chosen, turned, ending, after, given, taking, byCoin}
+use Rattle.coin_flipper.proofs.Laws.{held-more}
+use Rattle.iterator.specs.Turns.{answerOfChoice, turned, ending, after, given, taking, byCoin}
 use Rattle.iterator.specs.Stable.{stableFrom, latest, stableByHints}
 use Rattle.iterator.specs.declared.choose.Choice.{Choice}
+use Rattle.iterator.specs.declared.choose.Choice.the-variants.{Nothing}
 use Rattle.iterator.specs.declared.turns.Turn.{Turn}
-use Rattle.iterator.proofs.ChoiceTurns.{holds}
+use Rattle.iterator.proofs.ChoiceTurns.{holds, above-zero}
 
 -- ---- the code's loop
 
@@ -33,6 +36,9 @@ pub record Turns (budget : ℕ) (items : List ℕ) (s₀ : Coins) (p : ℕ) (hel
 abbrev pub Ended : (budget : ℕ) (items : List ℕ) (s₀ : Coins) (held : Choice) (f : CoinFlipper) → Type 0
 Ended budget items s₀ held f = ending (answerOfChoice held) (seen f) ≡ stableFrom budget items 0 [] s₀
 
+pub begin : (budget : ℕ) (items : List ℕ) (f : CoinFlipper) → Held 0 f → Turns budget items (seen f) 0 Nothing f
+begin budget items f h = record { goes = refl; some = refl; good = held-more 0 budget f (omega arith) h; upto = omega arith }
+
 module _ (budget : ℕ) (items : List ℕ) (s₀ : Coins) (p : ℕ) (held : Choice) (f : CoinFlipper) (t : Turns budget items s₀ p held f) where
   pub finish : length items ≤ p → Ended budget items s₀ held f
   unfolding stableFrom
@@ -45,11 +51,12 @@ module _ (budget : ℕ) (items : List ℕ) (s₀ : Coins) (p : ℕ) (held : Choi
         sym (t .goes)
         ∙ rw (drop-cons items p 0 h, add-one p) (ap (λ (x : Flipping). after x (λ held s. stableFrom budget (drop (suc p) items) (suc p) held s)) (sym (rw (add-one p) at e)))
 
-    pub again : answerOfChoice (r .held) .number ≡ 0 → Held budget (r .flipper) → Turns budget items s₀ (p + 1) (r .held) (r .flipper)
-    again n g = record { goes = sym (turn ∙ rw n); some = n; good = g; upto = omega arith }
+    pub again : eqb (answerOfChoice (r .held) .number) 0 ≡ true → Held budget (r .flipper) → Turns budget items s₀ (p + 1) (r .held) (r .flipper)
+    again b g = let n = eqb-true (answerOfChoice (r .held) .number) 0 b in record { goes = sym (turn ∙ rw n); some = n; good = g; upto = omega arith }
 
-    pub stop : (m : ℕ) → answerOfChoice (r .held) .number ≡ suc m → Ended budget items s₀ (r .held) (r .flipper)
-    stop m n = sym (turn ∙ rw n)
+    -- the budget ran out
+    pub stop : eqb (answerOfChoice (r .held) .number) 0 ≡ false → Ended budget items s₀ (r .held) (r .flipper)
+    stop b = let n = above-zero (answerOfChoice (r .held) .number) b in sym (turn ∙ rw (n .1))
 
 -- ---- the Rust's groups
 

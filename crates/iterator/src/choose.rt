@@ -2,10 +2,10 @@
 ghost use mathlib.Core.Path.{_≡_};
 ghost use mathlib.Core.Bool.{true};
 ghost use mathlib.Core.List.{[]};
-ghost use Prim.Native.Nat.{_-_, _^_, _≤_};
+ghost use Prim.Native.Nat.{suc, _-_, _^_, _≤_};
 ghost use lib.ListN.{length};
 ghost use Rattle.coin_flipper.specs.Within.{start};
-ghost use Rattle.iterator.specs.Choose.{checkOf, chooseFrom, chooseOf, chooseStableOf, exactly};
+ghost use Rattle.iterator.specs.Choose.{checkOf, chooseFrom, chooseOf, chooseStableOf, drawnLast, exactly};
 ghost use Rattle.iterator.specs.Hints.{hintsHold};
 ghost use Rattle.iterator.specs.Stable.{stableFrom};
 ghost use Rattle.iterator.specs.Turns.{chosen};
@@ -44,6 +44,14 @@ fn ended(answer: Choice, words: u64, rng: Xoshiro256PlusPlus) -> Chosen
         words: words,
         rng: rng,
     }
+}
+
+// The call ends with what is held.
+fn closing(held: Choice, flipper: CoinFlipper) -> Chosen
+    ensures { λ r. ⌜ r ≡ record { answer = held; words = flipper .words; rng = flipper .rng } ⌝ }
+{
+    let rng = flipper.rng;
+    ended(held, flipper.words, rng)
 }
 
 // The first refusal that applies before a word is read: the definition `checkOf`.
@@ -85,7 +93,24 @@ fn choose_exact(rng: Xoshiro256PlusPlus, items: &[u32], budget: u64) -> Chosen
     ended(Choice::Item(items[place]), drawn.words, after)
 }
 
-// Turn by turn, as the hints allow: the definition `chooseFrom`. Where both hints agree, a draw for all that remain is the last turn.
+// Whether a turn was a draw for all the items that remain, which is so where both hints agree: the definition `drawnLast`.
+fn drawn_last(least: u32, most: u32) -> bool
+    ensures { λ r. ⌜ r ≡ drawnLast least most ⌝ }
+{
+    least > 1 && most == least
+}
+
+// How many items a turn is for: so many as are sure to remain, and at least one.
+fn turn_length(least: u32) -> usize
+    ensures { λ r. ⌜ r ≡ suc (least - 1) ⌝ }
+{
+    if least > 1 {
+        return least as usize;
+    }
+    1
+}
+
+// Turn by turn, as the lower hints allow: the definition `chooseFrom`.
 fn choose_by_hints(
     rng: Xoshiro256PlusPlus,
     items: &[u32],
@@ -105,19 +130,17 @@ fn choose_by_hints(
         let turn = turn_at(flipper, held, items, consumed, least, budget);
         let next = turn.flipper;
         let holds = turn.held;
+        if !goes_on(holds) {
+            return closing(holds, next);
+        }
+        if drawn_last(least, most) {
+            return closing(holds, next);
+        }
         flipper = next;
         held = holds;
-        if !goes_on(holds) {
-            break;
-        }
-        if least > 1 && most == least {
-            break;
-        }
-        let step = if least > 1 { least } else { 1 };
-        consumed += step as usize;
+        consumed += turn_length(least);
     }
-    let last = flipper.rng;
-    ended(held, flipper.words, last)
+    closing(held, flipper)
 }
 
 // One question for each item in order: the definition `stableFrom`.
@@ -133,15 +156,14 @@ fn choose_each(rng: Xoshiro256PlusPlus, items: &[u32], budget: u64) -> Chosen
         let turn = by_coin(flipper, held, items[consumed], n, budget);
         let next = turn.flipper;
         let holds = turn.held;
+        if !goes_on(holds) {
+            return closing(holds, next);
+        }
         flipper = next;
         held = holds;
-        if !goes_on(holds) {
-            break;
-        }
         consumed += 1;
     }
-    let last = flipper.rng;
-    ended(held, flipper.words, last)
+    closing(held, flipper)
 }
 
 pub fn choose(
