@@ -14,7 +14,7 @@ use Rattle.iterator.specs.Fill.{FrontFilled, Replaced, refuses, fills, s
 use Rattle.refusal.specs.declared.Outcome.the-variants.{Done}
 use Rattle.refusal.specs.Answer.{answerOf}
 use Rattle.iterator.specs.declared.reservoir.Reading.{Reading}
-use Rattle.iterator.proofs.Turns.{front-length}
+use Rattle.iterator.proofs.ReservoirTurns.{front-length}
 
 module _ (g : Xoshiro256PlusPlus) (items buf : List ℕ) where
   pub zero-state : zeroState g ≡ true → sampleFillOf g items buf ≡ refuses ZeroState g buf

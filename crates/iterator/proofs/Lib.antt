@@ -1,4 +1,9 @@
 pub mod ReservoirShares
 pub mod Shares
-pub mod Turns
+pub mod ReservoirTurns
 pub mod Cases
+pub mod HintsChecked
+pub mod ChoiceTurns
+pub mod StableTurns
+pub mod ChooseTurns
+pub mod ChooseCases

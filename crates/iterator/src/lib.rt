@@ -9,7 +9,10 @@ use reservoir::fill_front;
 use reservoir::replace_slots;
 use xoshiro256plusplus::Xoshiro256PlusPlus;
 
+pub mod choose;
+mod hints;
 mod reservoir;
+mod turns;
 
 // The outcome, the count of slots filled, the words read, and the generator after them.
 pub struct Filled {

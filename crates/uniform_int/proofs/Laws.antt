@@ -8,8 +8,9 @@ use native.Mathlib.Nat.{le-of-lt, add-zero}
 use native.Mathlib.Numerals.{add-one}
 use native.Mathlib.Omega.{arith}
 use lib.Pow.{pow-pos}
-use borrow.Author.Tests.{lt-ltb, le-ltb, le-leb, lt-leb}
-use Rattle.xoshiro256plusplus.specs.Generator.{word, advance}
+use lib.Dec.{leb}
+use borrow.Author.Tests.{lt-ltb, le-ltb, le-leb, lt-leb, leb-true}
+use Rattle.xoshiro256plusplus.specs.Generator.{word, advance, steps}
 use Rattle.xoshiro256plusplus.specs.declared.Xoshiro256PlusPlus.{Xoshiro256PlusPlus}
 use Rattle.xoshiro256plusplus.proofs.Laws.{word-lt, steps-zero, steps-one}
 use Rattle.counting.specs.Lists.{Within}
@@ -70,6 +71,26 @@ module _ (r n k : ℕ) (g : Xoshiro256PlusPlus) where
   pub within-short : n ≡ 1 → 1 < bounded r g .words → boundedWithin r n g k ≡ spent (k + 1) (advance g)
   unfolding boundedWithin
   within-short e h = rw (e, lt-leb (bounded r g .words) 1 h, steps-one g)
+
+  -- it reads no more words than are left, and its value is below r
+  pub within-words : boundedWithin r n g k .words ≤ k + n
+  unfolding boundedWithin
+  within-words = go (leb (bounded r g .words) n) refl
+    where
+      go : (b : Bool) → leb (bounded r g .words) n ≡ b
+          → (let d : Drawing = cond b (found (bounded r g .value) (k + bounded r g .words) (bounded r g .rng)) (spent (k + n) (steps n g)) in d .words) ≤ k + n
+      go true e = omega (arith, leb-true (bounded r g .words) n e)
+      go false e = omega arith
+
+  pub within-lt : 0 < r → (v : ℕ) → boundedWithin r n g k .answer .values ≡ v ∷ [] → v < r
+  unfolding boundedWithin
+  within-lt hr v = go (leb (bounded r g .words) n)
+    where
+      go : (b : Bool)
+          → (let d : Drawing = cond b (found (bounded r g .value) (k + bounded r g .words) (bounded r g .rng)) (spent (k + n) (steps n g)) in d .answer .values) ≡ v ∷ []
+          → v < r
+      go true e = let q : bounded r g .value ≡ v = cc in omega (arith, q, bounded-lt r g hr)
+      go false e = let z : _≡_ {A = ℕ} 0 1 = cc in absurd (omega arith)
 
 -- ---- the rejecting draw: k of n words are read
 

@@ -6,7 +6,7 @@ use native.Mathlib.Omega.{arith}
 use denote.Ref.{now}
 use lib.ListN.{length, take, drop, length-set}
 use borrow.Author.Needs.{needs}
-use Rattle.iterator.proofs.Turns.{copied, all-copied}
+use Rattle.iterator.proofs.ReservoirTurns.{copied, all-copied}
 use Rattle.iterator.proofs.reservoir.fill_front.Statement.{statement}
 use Rattle.iterator.proofs.reservoir.fill_front.Tie as tie
 

@@ -5,7 +5,7 @@ use native.Mathlib.Omega.{arith}
 use denote.Ref.{now}
 use borrow.Author.Needs.{needs}
 use Rattle.uniform_int.proofs.Laws.{words-le}
-use Rattle.iterator.proofs.Turns.{Turn, begin, turn, turn-out, finish}
+use Rattle.iterator.proofs.ReservoirTurns.{Turn, begin, turn, turn-out, finish}
 use Rattle.iterator.proofs.reservoir.replace_slots.Statement.{statement}
 use Rattle.iterator.proofs.reservoir.replace_slots.Tie as tie
 

@@ -1,0 +1,5 @@
+pub mod Chunk
+pub mod Asking
+pub mod Heads
+pub mod Ratio
+pub mod Laws

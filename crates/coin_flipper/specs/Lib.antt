@@ -1,0 +1,3 @@
+pub mod Coins
+pub mod Within
+pub mod State

@@ -1,0 +1,56 @@
+-- `choose_stable` meets its contract: a refusal, or `stable` of `ChooseCases`. Assumes nothing.
+use mathlib.Core.Path.{_≡_, sym, _∙_}
+use denote.Ref.{now}
+use borrow.Author.Needs.{needs}
+use Rattle.refusal.specs.declared.Outcome.the-variants.{Done}
+use Rattle.coin_flipper.specs.Within.{start}
+use Rattle.iterator.specs.Choose.{checkOf}
+use Rattle.iterator.proofs.ChooseCases.{passed, stable-refused, stable}
+use Rattle.iterator.proofs.choose.choose_stable.Statement.{statement}
+use Rattle.iterator.proofs.choose.choose_stable.Tie as tie
+
+check-requires : tie.Need-check-requires
+check-requires c κs = search needs
+
+enum-known-checked : tie.Need-enum-known-checked
+enum-known-checked c = search needs
+
+ended-requires : tie.Need-ended-requires
+ended-requires c κs = search needs
+
+returns : tie.Need-returns
+unfolding start
+returns c =
+    let a = c .before .before .before .before .before .before .before .before .args in
+    let why = c .before .before .checked .given in
+    rw (c .ended .ensures) (sym (stable-refused (a .rng) (now (a .items)) (now (a .lower)) (now (a .upper)) (a .budget) (why .0 .0) (sym (c .before .before .before .before .check .ensures) ∙ why .1)))
+
+enum-told : tie.Need-enum-told
+enum-told c = search needs
+
+-- no refusal applies
+done : (c : tie.After-enum-told)
+    → checkOf (c .before .before .before .before .before .before .args .rng) (now (c .before .before .before .before .before .before .args .items)) (now (c .before .before .before .before .before .before .args .lower)) (now (c .before .before .before .before .before .before .args .upper)) ≡ Done
+done c = sym (c .before .before .check .ensures) ∙ c .enum-told .given .1
+
+choose-each-requires : tie.Need-choose-each-requires
+choose-each-requires c κs =
+    let a = c .before .before .before .before .before .before .args in
+    passed (a .rng) (now (a .items)) (now (a .lower)) (now (a .upper)) (done c) .few
+
+returns-2 : tie.Need-returns-2
+returns-2 c =
+    let a = c .before .before .before .before .before .before .before .args in
+    rw (c .choose-each .ensures) (sym (stable (a .rng) (now (a .items)) (now (a .lower)) (now (a .upper)) (a .budget) (done (c .before))))
+
+pub choose-stable-spec : {M : Type 1} → statement M
+choose-stable-spec =
+    tie.close
+    (tie.spec
+    check-requires
+    enum-known-checked
+    ended-requires
+    returns
+    enum-told
+    choose-each-requires
+    returns-2)

@@ -1,0 +1,79 @@
+-- `by_draw` meets its contract: a law for each way that the draw ends. Assumes nothing.
+use denote.Ref.{now}
+use native.Mathlib.Omega.{arith}
+use borrow.Author.Needs.{needs}
+use Rattle.iterator.proofs.ChoiceTurns.{held-drawn, draw-spent, draw-taken, draw-left}
+use Rattle.iterator.proofs.turns.by_draw.Statement.{statement}
+use Rattle.iterator.proofs.turns.by_draw.Tie as tie
+
+cast-range : tie.Need-cast-range
+cast-range c = search needs
+
+add-range : tie.Need-add-range
+add-range c = search needs
+
+random-range-within-requires : tie.Need-random-range-within-requires
+random-range-within-requires c κs = search needs
+
+enum-known-draw : tie.Need-enum-known-draw
+enum-known-draw c = search needs
+
+enum-told : tie.Need-enum-told
+enum-told c = search needs
+
+returns : tie.Need-returns
+returns c =
+    let a = c .before .before .before .before .before .before .args in
+    let d = c .before .before .before .random-range-within in (
+      draw-spent (a .budget) (a .least) (a .at) (now (a .items)) (a .held) (a .flipper) (d .result) (d .ensures) (c .enum-told .given .1),
+      held-drawn (a .budget) (a .least) (a .at) (now (a .items)) (a .held) (a .flipper) (d .result) (d .ensures) (c .before .before .before .before .before .before .pre .0),
+    )
+
+returns-2 : tie.Need-returns-2
+returns-2 c =
+    let s = c .before .before .before .before .before .before .before .before in
+    let a = s .args in
+    let d = c .before .before .before .before .before .random-range-within in
+    let v = c .before .before .draw .given in (
+      draw-left (a .budget) (a .least) (a .at) (now (a .items)) (a .held) (a .flipper) (d .result) (d .ensures) (v .0 .0) (v .1) (s .pre .1) (omega arith),
+      held-drawn (a .budget) (a .least) (a .at) (now (a .items)) (a .held) (a .flipper) (d .result) (d .ensures) (s .pre .0),
+    )
+
+cast-place : tie.Need-cast-place
+cast-place c = search needs
+
+add-place : tie.Need-add-place
+add-place c = search needs
+
+mul-t19 : tie.Need-mul-t19
+mul-t19 c = search needs
+
+shared-slice-read-t15 : tie.Need-shared-slice-read-t15
+shared-slice-read-t15 c = search needs
+
+returns-3 : tie.Need-returns-3
+returns-3 c =
+    let s = c .before .before .before .before .before .before .before .before .before in
+    let a = s .args in
+    let d = c .before .before .before .before .before .before .random-range-within in
+    let v = c .before .before .before .draw .given in (
+      draw-taken (a .budget) (a .least) (a .at) (now (a .items)) (a .held) (a .flipper) (d .result) (d .ensures) (v .0 .0) (v .1) (omega arith),
+      held-drawn (a .budget) (a .least) (a .at) (now (a .items)) (a .held) (a .flipper) (d .result) (d .ensures) (s .pre .0),
+    )
+
+pub by-draw-spec : {M : Type 1} → statement M
+by-draw-spec =
+    tie.close
+    (tie.spec
+    cast-range
+    add-range
+    random-range-within-requires
+    enum-known-draw
+    enum-told
+    returns
+    returns-2
+    cast-place
+    add-place
+    mul-t19
+    shared-slice-read-t15
+    returns-3)

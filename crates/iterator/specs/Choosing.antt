@@ -1,0 +1,25 @@
+-- What is said of the two choices besides.
+use mathlib.Core.Path.{_≡_}
+use mathlib.Core.Bool.{true, false}
+use mathlib.Core.List.{List, []}
+use Prim.Native.Nat.{ℕ, _-_, _^_, _≤_}
+use lib.ListN.{length}
+use Rattle.refusal.specs.Answer.{done}
+use Rattle.refusal.specs.declared.Outcome.the-variants.{Done}
+use Rattle.xoshiro256plusplus.specs.declared.Xoshiro256PlusPlus.{Xoshiro256PlusPlus}
+use Rattle.coin_flipper.specs.Within.{start}
+use Rattle.iterator.specs.Stable.{stableFrom}
+use Rattle.iterator.specs.Choose.{checkOf, chooseOf, chooseStableOf}
+
+pub record Choosing : Type 0 where
+  -- the stable choice is one-over-(p + 1) for each place p in order, whatever the hints are that the call takes
+  pub stable : (g : Xoshiro256PlusPlus) (items lower upper : List ℕ) (budget : ℕ) → checkOf g items lower upper ≡ Done
+      → chooseStableOf g items lower upper budget ≡ stableFrom budget items 0 [] (start g)
+  -- "none" is the answer only where there is no item
+  pub choose-none : (g : Xoshiro256PlusPlus) (items lower upper : List ℕ) (budget : ℕ) → chooseOf g items lower upper budget .answer ≡ done [] → items ≡ []
+  pub stable-none : (g : Xoshiro256PlusPlus) (items lower upper : List ℕ) (budget : ℕ) → chooseStableOf g items lower upper budget .answer ≡ done [] → items ≡ []
+  -- and there it is the answer of every call that is not refused, at any budget
+  pub choose-empty : (g : Xoshiro256PlusPlus) (lower upper : List ℕ) (budget : ℕ) → checkOf g [] lower upper ≡ Done
+      → chooseOf g [] lower upper budget ≡ record { answer = done []; words = 0; rng = g }
+  pub stable-empty : (g : Xoshiro256PlusPlus) (lower upper : List ℕ) (budget : ℕ) → checkOf g [] lower upper ≡ Done
+      → chooseStableOf g [] lower upper budget ≡ record { answer = done []; words = 0; rng = g }
