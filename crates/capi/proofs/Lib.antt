@@ -1,3 +1,4 @@
 pub mod Packed
 pub mod PackedWeights
 pub mod NoRecord
+pub mod PackedChoices

@@ -16,8 +16,8 @@ use super::turns::turn_at;
 use coin_flipper::CoinFlipper;
 use refusal::Outcome;
 use refusal::Refusal;
-use uniform_int::random_range_within;
 use uniform_int::Draw;
+use uniform_int::random_range_within;
 use xoshiro256plusplus::Xoshiro256PlusPlus;
 
 // What a choice answers. The definition `answerOfChoice` gives the number and the values of each case.
@@ -87,7 +87,11 @@ fn choose_exact(rng: Xoshiro256PlusPlus, items: &[u32], budget: u64) -> Chosen
     let after = drawn.rng;
     let draw = drawn.draw;
     let Draw::Value(ix) = draw else {
-        return ended(Choice::Refused(Refusal::BudgetExhausted), drawn.words, after);
+        return ended(
+            Choice::Refused(Refusal::BudgetExhausted),
+            drawn.words,
+            after,
+        );
     };
     let place = ix as usize;
     ended(Choice::Item(items[place]), drawn.words, after)

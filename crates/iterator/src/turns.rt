@@ -10,8 +10,8 @@ use super::choose::Choice;
 use coin_flipper::CoinFlipper;
 use coin_flipper::Flip;
 use refusal::Refusal;
-use uniform_int::random_range_within;
 use uniform_int::Draw;
+use uniform_int::random_range_within;
 
 // What is held, and the coins. Where the budget ran out, the refusal is held.
 pub(crate) struct Turn {
