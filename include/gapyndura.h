@@ -173,6 +173,36 @@ uint32_t gapyndura_weights_weight(const uint64_t table[2], const uint32_t *cumul
 uint32_t gapyndura_weights_pick(uint64_t state[4], const uint64_t table[2], const uint32_t *cumulative_weights,
                                 size_t cumulative_len, uint64_t budget, uint64_t out[2]);
 
+/* Chooses one of the items, each with the same chance, as if they were read one after another with hints of how many remain: for each
+ * place p from 0 to items_len, at least lower[p] and at most upper[p] of the items from p on. An upper hint of 2^32 - 1 is none. So both
+ * lists have items_len + 1 entries. Better hints make the call faster and change which words it reads, and so which item is chosen: where
+ * both agree at place 0, one draw does it; a lower hint of 2 or more is one draw for so many items; else coins are flipped for each item.
+ * budget is the most words that it may read.
+ *
+ * Answers 0, also where there is no item, else the number of the first cause here that applies:
+ *   12  all four words of state are 0: that is no generator
+ *   10  items_len is above 2^32 - 2
+ *   11  lower_len or upper_len is not items_len + 1, or at some p a hint is false: lower[p] is above items_len - p, or upper[p] below
+ *   13  a word is needed, and budget words are read
+ *
+ * On every answer:
+ *   state    is the generator after the words read;
+ *   out[0]   is the words read: exactly budget on 13, 0 on another refusal;
+ *   out[1]   is 1 where an item is chosen, and 0 where there is none and on a refusal;
+ *   out[2]   is the item, or 0 where out[1] is 0.
+ *
+ * No pointer is null, items neither where items_len is 0. */
+uint32_t gapyndura_choose(uint64_t state[4], const uint32_t *items, size_t items_len, const uint32_t *lower, size_t lower_len,
+                          const uint32_t *upper, size_t upper_len, uint64_t budget, uint64_t out[3]);
+
+/* The same with coins for each item, whatever the hints: the words read and the item chosen are the same for all hints that are not
+ * false.
+ *
+ * Answers 0, 12, 10, 11 or 13, and writes state and out, as gapyndura_choose does. No pointer is null, items neither where items_len
+ * is 0. */
+uint32_t gapyndura_choose_stable(uint64_t state[4], const uint32_t *items, size_t items_len, const uint32_t *lower,
+                                 size_t lower_len, const uint32_t *upper, size_t upper_len, uint64_t budget, uint64_t out[3]);
+
 #ifdef __cplusplus
 }
 #endif

@@ -2,6 +2,7 @@
 ghost use Prim.Native.Nat.{_<_};
 use super::answers::put;
 use super::answers::put_state;
+use super::choosing;
 use super::filling;
 use super::sampling;
 use super::shuffling;
@@ -150,6 +151,12 @@ pub fn make(line: &[u8]) {
     }
     if same(name, b"sample_fill") {
         filling::fill(n);
+    }
+    if same(name, b"choose") {
+        choosing::make_choice(n, false);
+    }
+    if same(name, b"choose_stable") {
+        choosing::make_choice(n, true);
     }
     if same(name, b"weighted_index") {
         weights::weigh(n);

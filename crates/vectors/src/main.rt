@@ -7,6 +7,7 @@ use text::line_end;
 
 mod answers;
 mod calls;
+mod choosing;
 mod filling;
 mod hash;
 mod sampling;
