@@ -2,6 +2,7 @@
 
 use reference::State;
 use reference::call::{Call, Reading};
+use reference::choose_line::Patterned;
 use reference::weights_line::Weighing;
 
 use crate::fill::SampleFill;
@@ -21,6 +22,8 @@ pub fn than(call: &Call) -> Vec<Call> {
         Call::Shuffle(ref call) => each(Shuffle::smaller(call), Call::Shuffle),
         Call::SampleFill(ref call) => each(SampleFill::smaller(call), Call::SampleFill),
         Call::WeightedIndex(ref call) => each(weighings(call), Call::WeightedIndex),
+        Call::Choose(ref call) => each(choices(call), Call::Choose),
+        Call::ChooseStable(ref call) => each(choices(call), Call::ChooseStable),
         Call::PartialShuffle { ref shuffling, at } => {
             let mut calls = each(PartialShuffle::smaller(shuffling), |shuffling| {
                 Call::PartialShuffle { shuffling, at }
@@ -70,6 +73,23 @@ fn weighings(call: &Weighing) -> Vec<Weighing> {
     calls.extend(changes.map(|less| with(&|call| call.changes = less.clone())));
     calls.extend(smaller(call.sums_len as u64).map(|n| with(&|call| call.sums_len = n as usize)));
     calls.extend(smaller(call.place).map(|n| with(&|call| call.place = n)));
+    calls.extend(smaller(call.budget).map(|n| with(&|call| call.budget = n)));
+    calls.extend(smaller_states(call.from).map(|from| with(&|call| call.from = from)));
+    calls
+}
+
+/// Choices with one number made smaller.
+fn choices(call: &Patterned) -> Vec<Patterned> {
+    let with = |change: &dyn Fn(&mut Patterned)| {
+        let mut less = call.clone();
+        change(&mut less);
+        less
+    };
+    let feeds = smaller(call.items_len as u64);
+    let mut calls: Vec<Patterned> = feeds
+        .map(|n| with(&|call| call.items_len = n as usize))
+        .collect();
+    calls.extend(smaller(call.pattern).map(|n| with(&|call| call.pattern = n)));
     calls.extend(smaller(call.budget).map(|n| with(&|call| call.budget = n)));
     calls.extend(smaller_states(call.from).map(|from| with(&|call| call.from = from)));
     calls
