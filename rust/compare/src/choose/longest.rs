@@ -1,10 +1,13 @@
 //! As many items as there may be, and one more, in lists that take memory only where they are touched.
 
-use reference::State;
-use reference::choosing::Lists;
+use rand::seq::IteratorRandom;
+use reference::choosing::{Lists, NO_UPPER};
+use reference::draws::bounded;
 use reference::shuffling::MOST_ITEMS;
+use reference::{State, counted, from_state};
 
 use super::port;
+use super::repeated::repeated;
 use crate::slices::without_memory;
 
 const FROM: State = [1, 2, 3, 4];
@@ -54,4 +57,24 @@ fn the_most_items_are_looked_at() {
             assert_eq!((chosen.number, chosen.words), (11, 0));
         }
     }
+}
+
+/// The hints tell at the first place that all items remain, so that rand makes one draw. The port looks at all of them.
+#[test]
+fn a_choice_from_the_most_items_is_rands() {
+    let items = without_memory(MOST_ITEMS);
+    let due = bounded(&mut from_state(FROM), MOST_ITEMS as u32);
+    items[due.value as usize] = 7;
+    let lower = without_memory(MOST_ITEMS + 1);
+    lower[0] = MOST_ITEMS as u32;
+    let lists = Lists {
+        items,
+        lower,
+        upper: repeated(NO_UPPER, MOST_ITEMS + 1),
+    };
+    let (item, words, state) = counted(FROM, |rng| lists.feed().choose(rng));
+    assert_eq!((item, words), (Some(7), due.words));
+    let chosen = port::choose(FROM, lists, u64::MAX);
+    assert_eq!((chosen.number, chosen.item), (0, item));
+    assert_eq!((chosen.words, chosen.state), (words, state));
 }

@@ -9,6 +9,8 @@ mod fixed;
 mod longest;
 pub mod port;
 mod random;
+#[cfg(test)]
+mod repeated;
 mod smaller;
 
 use reference::State;
