@@ -23,6 +23,11 @@ const LOWER_ONLY: usize = 6;
 const PATTERNED: usize = 40;
 const LONGER: [usize; 12] = [41, 63, 64, 65, 100, 127, 128, 129, 500, 1000, 1999, 2000];
 
+/// A number of items for the stable choice, and numbers of which a draw takes all but the last ones.
+const LONG: usize = 100_000;
+const DRAWN: [usize; 4] = [65_535, 65_536, 65_537, 1_000_000];
+const LAST: usize = 1000;
+
 /// Numbers of items that are tried with every kind of false hints.
 const FALSELY_HINTED: [usize; 7] = [0, 1, 2, 3, 5, 8, 100];
 
@@ -204,6 +209,25 @@ pub fn draws_between_coins(visit: &mut impl FnMut(Input)) {
                 }
             }
         }
+    }
+}
+
+/// Choices that draw from all items but the last, and flip coins for those. The first coins are heads, more than are needed.
+pub fn coins_after_a_draw(visit: &mut impl FnMut(Input)) {
+    for items_len in DRAWN {
+        let mut lower = vec![0; items_len + 1];
+        lower[0] = (items_len - LAST) as u32;
+        let hints = (lower, vec![NO_UPPER; items_len + 1]);
+        for coins in [0, 1, 1 << 12, 1 << 15, 1 << 16] {
+            visit(with(giving(1 << 31, coins, 1), hints.clone(), items_len));
+        }
+    }
+}
+
+/// Stable choices from many items.
+pub fn many(visit: &mut impl FnMut(Input)) {
+    for pattern in 0..PATTERNS {
+        visit(with(some_state(pattern), hints(pattern, LONG), LONG));
     }
 }
 

@@ -2,9 +2,9 @@
 
 use rand::seq::IteratorRandom;
 use reference::choosing::{Lists, NO_UPPER};
-use reference::draws::bounded;
 use reference::shuffling::MOST_ITEMS;
-use reference::{State, counted, from_state};
+use reference::words::giving;
+use reference::{State, counted};
 
 use super::port;
 use super::repeated::repeated;
@@ -59,22 +59,31 @@ fn the_most_items_are_looked_at() {
     }
 }
 
-/// The hints tell at the first place that all items remain, so that rand makes one draw. The port looks at all of them.
+/// The items for which coins are flipped, each with a chance of about one in 2^32.
+const LAST: usize = 2000;
+
+/// The hints tell at the first place that all items but the last remain, and nothing after that. The port looks at all of them.
 #[test]
 fn a_choice_from_the_most_items_is_rands() {
     let items = without_memory(MOST_ITEMS);
-    let due = bounded(&mut from_state(FROM), MOST_ITEMS as u32);
-    items[due.value as usize] = 7;
     let lower = without_memory(MOST_ITEMS + 1);
-    lower[0] = MOST_ITEMS as u32;
+    let known = MOST_ITEMS - LAST;
+    lower[0] = known as u32;
+    (1..)
+        .zip(&mut items[known..])
+        .for_each(|(mark, item)| *item = mark);
     let lists = Lists {
         items,
         lower,
         upper: repeated(NO_UPPER, MOST_ITEMS + 1),
     };
-    let (item, words, state) = counted(FROM, |rng| lists.feed().choose(rng));
-    assert_eq!((item, words), (Some(7), due.words));
-    let chosen = port::choose(FROM, lists, u64::MAX);
-    assert_eq!((chosen.number, chosen.item), (0, item));
-    assert_eq!((chosen.words, chosen.state), (words, state));
+    // The second word is that of the first coins, and has 32 heads: these are just enough.
+    for (second, due) in [(0, Some(1)), (1, Some(0))] {
+        let from = giving(1 << 31, second, 1);
+        let (item, words, state) = counted(from, |rng| lists.feed().choose(rng));
+        assert_eq!(item, due);
+        let chosen = port::choose(from, lists, u64::MAX);
+        assert_eq!((chosen.number, chosen.item), (0, item));
+        assert_eq!((chosen.words, chosen.state), (words, state));
+    }
 }

@@ -97,6 +97,7 @@ impl Kind for Choose {
     fn fixed(mut visit: impl FnMut(Input)) {
         fixed::calls(choose, &mut visit);
         fixed::draws_between_coins(&mut visit);
+        fixed::coins_after_a_draw(&mut visit);
     }
 
     fn random(source: &mut Source) -> Input {
@@ -135,6 +136,7 @@ impl Kind for ChooseStable {
 
     fn fixed(mut visit: impl FnMut(Input)) {
         fixed::calls(choose_stable, &mut visit);
+        fixed::many(&mut visit);
     }
 
     fn random(source: &mut Source) -> Input {
