@@ -34,7 +34,7 @@ const FALSELY_HINTED: [usize; 7] = [0, 1, 2, 3, 5, 8, 100];
 /// To this number of items draws come after coins.
 const AFTER_COINS: usize = 9;
 
-/// A call with these hints, and with items that are neither their places nor without 0.
+/// A call with these hints. The items are not their places, and one of them is 0.
 fn with(from: State, (lower, upper): (Vec<u32>, Vec<u32>), items_len: usize) -> Input {
     let items = (0..).map(|place: u32| place.wrapping_mul(3).wrapping_sub(3));
     Input {
@@ -71,7 +71,7 @@ fn budgets(rand: choosing::Choose, input: Input, visit: &mut impl FnMut(Input)) 
     }
 }
 
-/// All lists with one of `choices` at each place, which are those at the place before so many items.
+/// All lists with one of `choices` at each place, which are given how many items remain there.
 fn all(items_len: usize, choices: impl Fn(u32) -> Vec<u32>) -> Vec<Vec<u32>> {
     let mut lists = vec![Vec::new()];
     for remain in (0..=items_len as u32).rev() {
@@ -235,7 +235,7 @@ pub fn many(visit: &mut impl FnMut(Input)) {
 fn at_tests(before: usize, known: usize) -> Vec<State> {
     let pairs = bounded((before + known) as u32).into_iter();
     let states = (1..).zip(pairs).flat_map(|(salt, (a, b))| {
-        // Only from the third item on coins are needed before the draw; the first word is then theirs.
+        // The first item needs no coin. After two the first word is one of coins, and the draw's is the second.
         let words = match before < 2 {
             true => vec![(a, b)],
             false => [0, u32::MAX, 0x5a5a_5a5a].map(|coins| (coins, a)).to_vec(),

@@ -38,22 +38,25 @@ pub fn than(call: &Call) -> Vec<Call> {
             reading,
             from,
             count,
-        } => {
-            let read = |reading, from, count| Call::Read {
-                reading,
-                from,
-                count,
-            };
-            let mut calls = each(1..count, |less| read(reading, from, less));
-            calls.extend((1..count).rev().map(|passed| {
-                let later = after(&read(reading, from, passed));
-                read(reading, later, count - passed)
-            }));
-            calls.extend(smaller_states(from).map(|less| read(reading, less, count)));
-            calls.extend(readings(reading).map(|less| read(less, from, count)));
-            calls
-        }
+        } => reads(reading, from, count),
     }
+}
+
+/// So many readings: fewer of them, those that are left when some have been made, and others from smaller numbers.
+fn reads(reading: Reading, from: State, count: u64) -> Vec<Call> {
+    let read = |reading, from, count| Call::Read {
+        reading,
+        from,
+        count,
+    };
+    let mut calls = each(1..count, |less| read(reading, from, less));
+    calls.extend((1..count).rev().map(|passed| {
+        let later = after(&read(reading, from, passed));
+        read(reading, later, count - passed)
+    }));
+    calls.extend(smaller_states(from).map(|less| read(reading, less, count)));
+    calls.extend(readings(reading).map(|less| read(less, from, count)));
+    calls
 }
 
 /// Tables with one list or one number made smaller.
