@@ -1,6 +1,7 @@
 //! Measures Gapyndura's calls against rand's, in one run, and prints a table in Markdown.
 
 mod allocation;
+mod choices;
 mod fills;
 mod samples;
 mod shuffles;
@@ -14,6 +15,7 @@ use std::process::ExitCode;
 use std::time::Duration;
 
 use allocation::Counting;
+use choices::Choice;
 use sides::Case;
 use timing::Plan;
 use weights::Work;
@@ -22,7 +24,7 @@ use weights::Work;
 static ALLOCATOR: Counting = Counting;
 
 /// The cases of the table.
-const CASES: [Case; 22] = [
+const CASES: [Case; 26] = [
     Case::sample(12, 351),
     Case::sample(12, 350),
     Case::sample(100, 10_000),
@@ -54,6 +56,10 @@ const CASES: [Case; 22] = [
     Case::weights(Work::Pick, 10),
     Case::weights(Work::Pick, 1000),
     Case::weights(Work::Pick, 100_000),
+    Case::choice(Choice::CHOOSE, 1000),
+    Case::choice(Choice::CHOOSE_EXACT, 1000),
+    Case::choice(Choice::STABLE, 1000),
+    Case::choice(Choice::STABLE_EXACT, 1000),
 ];
 
 /// A case that is measured once and apart: the port's filter is too small for it.

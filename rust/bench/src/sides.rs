@@ -3,6 +3,7 @@
 use reference::State;
 use reference::methods::Method;
 
+use crate::choices::{self, Choice};
 use crate::samples::{self, Sample};
 use crate::weights::{self, Work};
 use crate::{fills, shuffles};
@@ -20,6 +21,8 @@ pub enum Case {
     Fill { slots: usize, items: usize },
     /// A call on a table of so many weights.
     Weights { work: Work, count: usize },
+    /// A choice from so many items.
+    Choice { choice: Choice, items: usize },
 }
 
 /// A side of a case.
@@ -41,6 +44,10 @@ impl Case {
 
     pub const fn weights(work: Work, count: usize) -> Self {
         Self::Weights { work, count }
+    }
+
+    pub const fn choice(choice: Choice, items: usize) -> Self {
+        Self::Choice { choice, items }
     }
 
     /// rand's side and the port's.
@@ -66,10 +73,14 @@ impl Case {
                 Box::new(weights::Theirs::new(work, count)),
                 Box::new(weights::Ours::new(work, count)),
             ],
+            Self::Choice { choice, items } => [
+                Box::new(choices::Theirs::new(choice, items)),
+                Box::new(choices::Ours::new(choice, items)),
+            ],
         }
     }
 
-    /// The numbers of the case: how many of how many. A whole shuffle and a table have one.
+    /// The numbers of the case: how many of how many. A whole shuffle, a table and a choice have one.
     pub fn sizes(self) -> (Option<u64>, u64) {
         match self {
             Self::Sample(sample) => (Some(sample.amount.into()), sample.length.into()),
@@ -77,6 +88,7 @@ impl Case {
             Self::PartialShuffle { amount, len } => (Some(amount as u64), len as u64),
             Self::Fill { slots, items } => (Some(slots as u64), items as u64),
             Self::Weights { count, .. } => (None, count as u64),
+            Self::Choice { items, .. } => (None, items as u64),
         }
     }
 
@@ -92,6 +104,7 @@ impl Case {
             Self::PartialShuffle { .. } => "partial shuffle",
             Self::Fill { .. } => "fill",
             Self::Weights { work, .. } => work.name(),
+            Self::Choice { choice, .. } => choice.name(),
         }
     }
 
@@ -102,6 +115,7 @@ impl Case {
             Self::Shuffle { len } | Self::PartialShuffle { len, .. } => len,
             Self::Fill { slots, .. } => slots,
             Self::Weights { count, .. } => count - 1,
+            Self::Choice { .. } => 0,
         }
     }
 }

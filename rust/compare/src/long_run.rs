@@ -1,6 +1,7 @@
-//! Long mixed runs: one generator carried through many samples, shuffles, fills and picks, so that a generator left in the wrong
-//! place shows in all that follows.
+//! Long mixed runs: one generator carried through many samples, shuffles, fills, picks and choices, so that a generator left in the
+//! wrong place shows in all that follows.
 
+use reference::choosing::{self, choose, choose_stable};
 use reference::filling::{Filling, sample_fill};
 use reference::plain_list::Record;
 use reference::sampling::{Ended, Sampling};
@@ -8,6 +9,7 @@ use reference::shuffling::{Outcome, Shuffling, Whole, partial_shuffle, shuffle};
 use reference::weighing::pick;
 use reference::{State, hash};
 
+use crate::choose::{self, Choose};
 use crate::fill::{self, SampleFill};
 use crate::inputs::{Source, edges, smaller};
 use crate::kind::Kind;
@@ -50,6 +52,8 @@ struct Calls {
     shuffle: fn(State, &mut [u32]) -> Outcome,
     sample_fill: fill::End,
     pick: fn(State, Record, &[u32], u64) -> Ended,
+    choose: choosing::Choose,
+    choose_stable: choosing::Choose,
 }
 
 /// rand's calls.
@@ -59,6 +63,8 @@ const RAND: Calls = Calls {
     shuffle,
     sample_fill,
     pick,
+    choose,
+    choose_stable,
 };
 
 /// The port's calls.
@@ -68,10 +74,13 @@ const PORT: Calls = Calls {
     shuffle: shuffle::port::shuffle,
     sample_fill: fill::port::sample_fill,
     pick: weights::PORT.pick,
+    choose: choose::port::choose,
+    choose_stable: choose::port::choose_stable,
 };
 
 impl Kind for LongRun {
-    const NAME: &'static str = "samples, shuffles, fills and picks, one generator for many";
+    const NAME: &'static str =
+        "samples, shuffles, fills, picks and choices, one generator for many";
     const FAULTS: &'static [&'static str] = &[GENERATOR_STAYS];
     const PARTS: usize = 2;
     type Input = Input;
@@ -150,7 +159,7 @@ impl Calls {
 
     /// A random call from this generator: how it ends, and the slices that it was lent.
     fn call(&self, from: State, source: &mut Source) -> (Ended, Vec<Lent>) {
-        match source.below(5) {
+        match source.below(7) {
             0 => self.sample(from, source),
             1 => {
                 let Shuffling { len, amount, .. } = PartialShuffle::random(source);
@@ -168,7 +177,9 @@ impl Calls {
                 let answer = fill::Answer::new(&call, self.sample_fill);
                 (answer.ended, vec![answer.buf])
             }
-            _ => self.pick(from, source),
+            4 => self.pick(from, source),
+            5 => chosen(from, source, self.choose),
+            _ => chosen(from, source, self.choose_stable),
         }
     }
 
@@ -195,4 +206,14 @@ impl Calls {
 fn shuffled(len: usize, end: impl FnOnce(&mut [u32]) -> Outcome) -> (Ended, Vec<Lent>) {
     let answer = shuffle::Answer::new(len, end);
     (answer.ended, vec![answer.items])
+}
+
+/// How a choice ends, and the lists.
+fn chosen(from: State, source: &mut Source, end: choosing::Choose) -> (Ended, Vec<Lent>) {
+    let call = choose::Input {
+        from,
+        ..Choose::random(source)
+    };
+    let answer = choose::Answer::new(&call, end);
+    (answer.chosen.ended(), answer.lent.into())
 }

@@ -4,6 +4,7 @@
 //! have no function there are made by the Rattle program of module [`program`].
 
 mod arguments;
+mod choose;
 mod fill;
 mod inputs;
 mod kind;
@@ -28,7 +29,7 @@ use program::Program;
 use reference::call::Name;
 
 /// The kinds of call at the C boundary, in the order in which they are run.
-const KINDS: [Entry; 13] = [
+const KINDS: [Entry; 15] = [
     Entry::of::<seeding::FromSeed>(),
     Entry::of::<seeding::SeedFromU64>(),
     Entry::of::<sample::Sample>(),
@@ -41,6 +42,8 @@ const KINDS: [Entry; 13] = [
     Entry::of::<weights::Lookup>(),
     Entry::of::<weights::Pick>(),
     Entry::of::<weights::History>(),
+    Entry::of::<choose::Choose>(),
+    Entry::of::<choose::ChooseStable>(),
     Entry::of::<long_run::LongRun>(),
 ];
 

@@ -71,6 +71,28 @@ unsafe extern "C" {
         budget: u64,
         out: &mut [u64; 2],
     ) -> u32;
+    pub fn gapyndura_choose(
+        state: &mut [u64; 4],
+        items: *const u32,
+        items_len: usize,
+        lower: *const u32,
+        lower_len: usize,
+        upper: *const u32,
+        upper_len: usize,
+        budget: u64,
+        out: &mut [u64; 3],
+    ) -> u32;
+    pub fn gapyndura_choose_stable(
+        state: &mut [u64; 4],
+        items: *const u32,
+        items_len: usize,
+        lower: *const u32,
+        lower_len: usize,
+        upper: *const u32,
+        upper_len: usize,
+        budget: u64,
+        out: &mut [u64; 3],
+    ) -> u32;
 }
 
 #[cfg(test)]

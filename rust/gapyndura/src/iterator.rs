@@ -1,6 +1,13 @@
-//! Samples of items that are read once, in their order, as in rand's module `iterator`.
+//! Samples and choices of items that are read once, in their order, as in rand's module `iterator`.
+//!
+//! A choice is given the items, and for every place before, between and behind them two hints: that at least and at most so
+//! many items remain there. In rand they are what `Iterator::size_hint` says. So N items have N + 1 hints of each kind:
+//! `lower[p]` and `upper[p]` are the bounds on N - p. An upper of 2^32 - 1 is none, as rand's `None`.
 
-use crate::boundary::gapyndura_sample_fill;
+use core::error::Error;
+use core::fmt;
+
+use crate::boundary::{gapyndura_choose, gapyndura_choose_stable, gapyndura_sample_fill};
 use crate::{Refusal, Xoshiro256PlusPlus};
 
 /// What a fill took and gave.
@@ -73,6 +80,185 @@ pub fn sample_fill(
     Ok(Filled {
         // No more than the slice has entries.
         count: count as usize,
+        words,
+    })
+}
+
+/// What a choice took and gave.
+#[derive(Clone, Copy, Debug, PartialEq, Eq, Hash)]
+pub struct Chosen {
+    /// The item. None exactly where there are no items.
+    pub item: Option<u32>,
+    /// How many words were read from the generator.
+    pub words: u64,
+}
+
+/// Why nothing is chosen, and the words read before that was seen.
+#[derive(Clone, Copy, Debug, PartialEq, Eq, Hash)]
+pub struct ChooseError {
+    /// The cause.
+    pub refusal: Refusal,
+    /// The words read: the budget with [`BudgetExhausted`](Refusal::BudgetExhausted), else none.
+    pub words: u64,
+}
+
+impl fmt::Display for ChooseError {
+    fn fmt(&self, f: &mut fmt::Formatter<'_>) -> fmt::Result {
+        self.refusal.fmt(f)?;
+        if self.refusal == Refusal::BudgetExhausted {
+            write!(f, ": nothing chosen in {} words", self.words)?;
+        }
+        Ok(())
+    }
+}
+
+impl Error for ChooseError {}
+
+/// Chooses one of the items, each as likely as another.
+///
+/// The item, and the words read for it, are those of rand's `IteratorRandom::choose` on an iterator with these hints. The
+/// better the hints, the fewer words: items that are known to remain are drawn from at once, the others one by one. So the
+/// item depends on the hints, and [`choose_stable`] is the call where it does not. Every hint is looked at, whatever is
+/// drawn. The choice stops when `budget` words are read.
+///
+/// ```
+/// use gapyndura::Xoshiro256PlusPlus;
+/// use gapyndura::iterator::choose;
+///
+/// let mut rng = Xoshiro256PlusPlus::seed_from_u64(1);
+/// let items = [10, 20, 30];
+/// // Exact hints: one draw.
+/// let exact = [3, 2, 1, 0];
+/// let chosen = choose(&mut rng, &items, &exact, &exact, u64::MAX)?;
+/// assert!(items.map(Some).contains(&chosen.item));
+/// assert_eq!(chosen.words, 1);
+///
+/// // No hints, and no items.
+/// let chosen = choose(&mut rng, &[], &[0], &[u32::MAX], u64::MAX)?;
+/// assert_eq!((chosen.item, chosen.words), (None, 0));
+/// # Ok::<(), gapyndura::iterator::ChooseError>(())
+/// ```
+///
+/// # Errors
+///
+/// The first of these that applies: [`ZeroState`](Refusal::ZeroState); [`TooLong`](Refusal::TooLong), for more than
+/// 2^32 - 2 items; [`InvalidHints`](Refusal::InvalidHints), where `lower` or `upper` has not exactly one entry more than
+/// there are items, or does not hold at some place; and [`BudgetExhausted`](Refusal::BudgetExhausted), where `budget` words
+/// are read and one more is needed. Only then is the generator advanced.
+///
+/// ```
+/// use gapyndura::{Refusal, Xoshiro256PlusPlus};
+/// use gapyndura::iterator::choose;
+///
+/// let mut rng = Xoshiro256PlusPlus::seed_from_u64(1);
+/// let (items, none) = ([10, 20], [u32::MAX; 3]);
+/// let mut refusal = |lower: &[u32], upper: &[u32], budget| {
+///     choose(&mut rng, &items, lower, upper, budget).map_err(|error| (error.refusal, error.words))
+/// };
+/// assert_eq!(refusal(&[0, 2, 0], &none, 9), Err((Refusal::InvalidHints, 0)));
+/// assert_eq!(refusal(&[0, 0], &none, 9), Err((Refusal::InvalidHints, 0)));
+/// assert_eq!(refusal(&[2, 1, 0], &[1, 1, 0], 9), Err((Refusal::InvalidHints, 0)));
+/// assert_eq!(refusal(&[2, 1, 0], &none, 0), Err((Refusal::BudgetExhausted, 0)));
+/// ```
+pub fn choose(
+    rng: &mut Xoshiro256PlusPlus,
+    items: &[u32],
+    lower: &[u32],
+    upper: &[u32],
+    budget: u64,
+) -> Result<Chosen, ChooseError> {
+    let mut out = [0; 3];
+    // SAFETY: as in `sample_fill`.
+    let number = unsafe {
+        gapyndura_choose(
+            rng.state_mut(),
+            items.as_ptr(),
+            items.len(),
+            lower.as_ptr(),
+            lower.len(),
+            upper.as_ptr(),
+            upper.len(),
+            budget,
+            &mut out,
+        )
+    };
+    chosen(number, out)
+}
+
+/// Chooses one of the items, each as likely as another, and the same one whatever the hints are.
+///
+/// The item, and the words read for it, are those of rand's `IteratorRandom::choose_stable`: coins decide for each item in
+/// turn whether it takes the place of the one chosen so far. Hints must hold, but nothing else hangs on them. The choice
+/// stops when `budget` words are read.
+///
+/// ```
+/// use gapyndura::Xoshiro256PlusPlus;
+/// use gapyndura::iterator::choose_stable;
+///
+/// let start = Xoshiro256PlusPlus::seed_from_u64(1);
+/// let items = [10, 20, 30];
+/// let mut rng = start.clone();
+/// let chosen = choose_stable(&mut rng, &items, &[0; 4], &[u32::MAX; 4], u64::MAX)?;
+/// assert!(items.map(Some).contains(&chosen.item));
+///
+/// let mut again = start;
+/// let exact = [3, 2, 1, 0];
+/// assert_eq!(choose_stable(&mut again, &items, &exact, &exact, u64::MAX)?, chosen);
+/// assert_eq!(again, rng);
+/// # Ok::<(), gapyndura::iterator::ChooseError>(())
+/// ```
+///
+/// # Errors
+///
+/// Those of [`choose`], in the same order.
+///
+/// ```
+/// use gapyndura::{Refusal, Xoshiro256PlusPlus};
+/// use gapyndura::iterator::choose_stable;
+///
+/// let mut rng = Xoshiro256PlusPlus::seed_from_u64(1);
+/// // One item is chosen without a coin, two are not.
+/// assert!(choose_stable(&mut rng, &[7], &[0; 2], &[u32::MAX; 2], 0).is_ok());
+/// let error = choose_stable(&mut rng, &[7, 8], &[0; 3], &[u32::MAX; 3], 0).unwrap_err();
+/// assert_eq!((error.refusal, error.words), (Refusal::BudgetExhausted, 0));
+/// ```
+pub fn choose_stable(
+    rng: &mut Xoshiro256PlusPlus,
+    items: &[u32],
+    lower: &[u32],
+    upper: &[u32],
+    budget: u64,
+) -> Result<Chosen, ChooseError> {
+    let mut out = [0; 3];
+    // SAFETY: as in `sample_fill`.
+    let number = unsafe {
+        gapyndura_choose_stable(
+            rng.state_mut(),
+            items.as_ptr(),
+            items.len(),
+            lower.as_ptr(),
+            lower.len(),
+            upper.as_ptr(),
+            upper.len(),
+            budget,
+            &mut out,
+        )
+    };
+    chosen(number, out)
+}
+
+/// What a function of the header answers and writes for a choice.
+fn chosen(number: u32, out: [u64; 3]) -> Result<Chosen, ChooseError> {
+    let [words, is_there, item] = out;
+    if number == 0 {
+        return Ok(Chosen {
+            // An item has 32 bits.
+            item: (is_there == 1).then_some(item as u32),
+            words,
+        });
+    }
+    Err(ChooseError {
+        refusal: Refusal::from_number(number),
         words,
     })
 }

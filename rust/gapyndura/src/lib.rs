@@ -1,4 +1,4 @@
-//! Samples, shuffles, reservoirs and weights of crate rand 0.10.3, proved equal to their definitions.
+//! Samples, shuffles, reservoirs, choices and weights of crate rand 0.10.3, proved equal to their definitions.
 //!
 //! The calls are proved in Rattle and linked as a static library for x86-64 Linux. This crate holds the safe side of that
 //! boundary and nothing else: each function lends its arguments to one function of `include/gapyndura.h`.

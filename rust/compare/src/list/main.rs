@@ -2,6 +2,7 @@
 //!
 //! [`reference::call`] says what a line of `stdin` is and what its line of `stdout` holds.
 
+mod choices;
 mod contents;
 mod samples;
 mod shuffles;

@@ -2,12 +2,14 @@
 
 use reference::State;
 use reference::call::{Call, LONGEST_SLICE, Name, Reading};
+use reference::choose_line::{MOST_FEED, PATTERNS, Patterned};
 use reference::filling::Filling;
 use reference::sampling::Sampling;
 use reference::shuffling::{Shuffling, Whole};
 use reference::weights_line::{MOST_ENTRIES, Weighing};
 use reference::words::{bounded, giving, rejecting};
 
+use crate::choose;
 use crate::fill::SampleFill;
 use crate::inputs::Source;
 use crate::kind::Kind;
@@ -29,6 +31,8 @@ pub fn call(name: Name, source: &mut Source, most: u64) -> Call {
         Name::Shuffle => return Call::Shuffle(shuffle(source)),
         Name::SampleFill => return Call::SampleFill(fill(source)),
         Name::WeightedIndex => return Call::WeightedIndex(weighing(source)),
+        Name::Choose => return Call::Choose(choice(source)),
+        Name::ChooseStable => return Call::ChooseStable(choice(source)),
         Name::NextU64 => Reading::NextU64,
         Name::NextU32 => Reading::NextU32,
         Name::RandomRange => Reading::RandomRange { r: bound(source) },
@@ -113,6 +117,16 @@ fn weighing(source: &mut Source) -> Weighing {
         weights,
         places,
         changes,
+    }
+}
+
+/// A choice with hints of one of the patterns.
+fn choice(source: &mut Source) -> Patterned {
+    Patterned {
+        from: source.state_or_zero(),
+        budget: budget(source),
+        items_len: choose::count(source).min(MOST_FEED),
+        pattern: source.below(PATTERNS as u32).into(),
     }
 }
 

@@ -2,6 +2,7 @@
 
 use reference::State;
 use reference::call::{Call, Reading};
+use reference::choose_line::Patterned;
 use reference::weights_line::Weighing;
 
 use crate::fill::SampleFill;
@@ -21,6 +22,8 @@ pub fn than(call: &Call) -> Vec<Call> {
         Call::Shuffle(ref call) => each(Shuffle::smaller(call), Call::Shuffle),
         Call::SampleFill(ref call) => each(SampleFill::smaller(call), Call::SampleFill),
         Call::WeightedIndex(ref call) => each(weighings(call), Call::WeightedIndex),
+        Call::Choose(ref call) => each(choices(call), Call::Choose),
+        Call::ChooseStable(ref call) => each(choices(call), Call::ChooseStable),
         Call::PartialShuffle { ref shuffling, at } => {
             let mut calls = each(PartialShuffle::smaller(shuffling), |shuffling| {
                 Call::PartialShuffle { shuffling, at }
@@ -35,22 +38,25 @@ pub fn than(call: &Call) -> Vec<Call> {
             reading,
             from,
             count,
-        } => {
-            let read = |reading, from, count| Call::Read {
-                reading,
-                from,
-                count,
-            };
-            let mut calls = each(1..count, |less| read(reading, from, less));
-            calls.extend((1..count).rev().map(|passed| {
-                let later = after(&read(reading, from, passed));
-                read(reading, later, count - passed)
-            }));
-            calls.extend(smaller_states(from).map(|less| read(reading, less, count)));
-            calls.extend(readings(reading).map(|less| read(less, from, count)));
-            calls
-        }
+        } => reads(reading, from, count),
     }
+}
+
+/// So many readings: fewer of them, those that are left when some have been made, and others from smaller numbers.
+fn reads(reading: Reading, from: State, count: u64) -> Vec<Call> {
+    let read = |reading, from, count| Call::Read {
+        reading,
+        from,
+        count,
+    };
+    let mut calls = each(1..count, |less| read(reading, from, less));
+    calls.extend((1..count).rev().map(|passed| {
+        let later = after(&read(reading, from, passed));
+        read(reading, later, count - passed)
+    }));
+    calls.extend(smaller_states(from).map(|less| read(reading, less, count)));
+    calls.extend(readings(reading).map(|less| read(less, from, count)));
+    calls
 }
 
 /// Tables with one list or one number made smaller.
@@ -70,6 +76,23 @@ fn weighings(call: &Weighing) -> Vec<Weighing> {
     calls.extend(changes.map(|less| with(&|call| call.changes = less.clone())));
     calls.extend(smaller(call.sums_len as u64).map(|n| with(&|call| call.sums_len = n as usize)));
     calls.extend(smaller(call.place).map(|n| with(&|call| call.place = n)));
+    calls.extend(smaller(call.budget).map(|n| with(&|call| call.budget = n)));
+    calls.extend(smaller_states(call.from).map(|from| with(&|call| call.from = from)));
+    calls
+}
+
+/// Choices with one number made smaller.
+fn choices(call: &Patterned) -> Vec<Patterned> {
+    let with = |change: &dyn Fn(&mut Patterned)| {
+        let mut less = call.clone();
+        change(&mut less);
+        less
+    };
+    let feeds = smaller(call.items_len as u64);
+    let mut calls: Vec<Patterned> = feeds
+        .map(|n| with(&|call| call.items_len = n as usize))
+        .collect();
+    calls.extend(smaller(call.pattern).map(|n| with(&|call| call.pattern = n)));
     calls.extend(smaller(call.budget).map(|n| with(&|call| call.budget = n)));
     calls.extend(smaller_states(call.from).map(|from| with(&|call| call.from = from)));
     calls

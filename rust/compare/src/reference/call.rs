@@ -8,6 +8,8 @@ use std::fmt;
 use rand::rngs::Xoshiro256PlusPlus;
 use rand::{Rng, SeedableRng};
 
+use crate::choose_line::Patterned;
+use crate::choosing::{choose, choose_stable};
 use crate::draws::{Draws, RAND, within};
 use crate::filling::{Filling, sample_fill};
 use crate::methods::{draw, due};
@@ -42,11 +44,13 @@ pub enum Name {
     Shuffle,
     SampleFill,
     WeightedIndex,
+    Choose,
+    ChooseStable,
 }
 
 impl Name {
     /// All of them, in their order.
-    pub const ALL: [Self; 12] = [
+    pub const ALL: [Self; 14] = [
         Self::SeedFromU64,
         Self::FromSeed,
         Self::NextU64,
@@ -59,6 +63,8 @@ impl Name {
         Self::Shuffle,
         Self::SampleFill,
         Self::WeightedIndex,
+        Self::Choose,
+        Self::ChooseStable,
     ];
 }
 
@@ -77,6 +83,8 @@ impl fmt::Display for Name {
             Self::Shuffle => "shuffle",
             Self::SampleFill => "sample_fill",
             Self::WeightedIndex => "weighted_index",
+            Self::Choose => "choose",
+            Self::ChooseStable => "choose_stable",
         })
     }
 }
@@ -166,6 +174,10 @@ pub enum Call {
     SampleFill(Filling),
     /// A new table of weights, a change of it, a lookup and a pick. [`Weighing::answer`] says what the answer is.
     WeightedIndex(Weighing),
+    /// A choice. [`Patterned`] says what the line and the answer are.
+    Choose(Patterned),
+    /// A stable choice, of the same kind.
+    ChooseStable(Patterned),
 }
 
 impl Call {
@@ -181,6 +193,8 @@ impl Call {
             Self::Shuffle(_) => Name::Shuffle,
             Self::SampleFill(_) => Name::SampleFill,
             Self::WeightedIndex(_) => Name::WeightedIndex,
+            Self::Choose(_) => Name::Choose,
+            Self::ChooseStable(_) => Name::ChooseStable,
         }
     }
 
@@ -209,6 +223,7 @@ impl Call {
             Self::Shuffle(ref whole) => whole_numbers(whole),
             Self::SampleFill(ref filling) => fill_numbers(filling),
             Self::WeightedIndex(ref weighing) => weighing.numbers(),
+            Self::Choose(ref line) | Self::ChooseStable(ref line) => line.numbers(),
         }
     }
 
@@ -231,11 +246,13 @@ impl Call {
                 filled(filling, |items, buf| sample_fill(filling.from, items, buf))
             }
             Self::WeightedIndex(ref weighing) => weighing.answer(&weighing::RAND),
+            Self::Choose(ref line) => line.answer(choose),
+            Self::ChooseStable(ref line) => line.answer(choose_stable),
             _ => self.answer_by(&RAND),
         }
     }
 
-    /// The answer of rand's generator with these draws in place of rand's. Shuffles, fills and tables keep rand's own.
+    /// The answer of rand's generator with these draws in place of rand's. Shuffles, fills, tables and choices keep rand's own.
     #[must_use]
     pub fn answer_by(&self, draws: &Draws) -> Vec<u64> {
         let (mut numbers, after) = match *self {
@@ -260,7 +277,9 @@ impl Call {
             Self::PartialShuffle { .. }
             | Self::Shuffle(_)
             | Self::SampleFill(_)
-            | Self::WeightedIndex(_) => {
+            | Self::WeightedIndex(_)
+            | Self::Choose(_)
+            | Self::ChooseStable(_) => {
                 return self.answer();
             }
         };

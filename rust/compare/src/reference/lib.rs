@@ -3,6 +3,9 @@
 //! With it, rand's answers to the calls of a list: what program `compare` holds a run to and program `list` writes.
 
 pub mod call;
+pub mod choose_line;
+pub mod choosing;
+pub mod coins;
 pub mod draws;
 pub mod filling;
 mod hash;
@@ -100,7 +103,7 @@ pub fn from_state(words: State) -> Xoshiro256PlusPlus {
 }
 
 /// A generator that counts the words read from it, so that a count is never taken on trust from the way a call is written.
-#[derive(Clone, Debug)]
+#[derive(Clone, Debug, PartialEq, Eq)]
 pub struct Counting {
     rng: Xoshiro256PlusPlus,
     words: u64,

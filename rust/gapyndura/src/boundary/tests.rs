@@ -1,8 +1,9 @@
 //! What the functions of the header write besides what the safe calls hand on.
 
 use super::{
-    gapyndura_partial_shuffle, gapyndura_sample_fill, gapyndura_shuffle, gapyndura_weights_new,
-    gapyndura_weights_pick, gapyndura_weights_update, gapyndura_weights_weight,
+    gapyndura_choose, gapyndura_choose_stable, gapyndura_partial_shuffle, gapyndura_sample_fill,
+    gapyndura_shuffle, gapyndura_weights_new, gapyndura_weights_pick, gapyndura_weights_update,
+    gapyndura_weights_weight,
 };
 
 /// A call with a state, and with the out-parameter that is written.
@@ -196,4 +197,90 @@ fn a_total_above_32_bits_is_no_record() {
             }
         }
     }
+}
+
+/// A function of the header that chooses.
+type Choose = unsafe extern "C" fn(
+    &mut [u64; 4],
+    *const u32,
+    usize,
+    *const u32,
+    usize,
+    *const u32,
+    usize,
+    u64,
+    &mut [u64; 3],
+) -> u32;
+
+/// The two.
+const CHOOSERS: [Choose; 2] = [gapyndura_choose, gapyndura_choose_stable];
+
+/// The answer to a choice from 5, 6, 7 and so on, what it writes, and the state afterwards.
+fn choice(
+    choose: Choose,
+    state: [u64; 4],
+    items_len: usize,
+    [lower, upper]: [&[u32]; 2],
+    budget: u64,
+) -> (u32, [u64; 3], [u64; 4]) {
+    let (mut state, mut out) = (state, [77, 88, 99]);
+    let items: [u32; 3] = [5, 6, 7];
+    let items = &items[..items_len];
+    // SAFETY: as in `new`.
+    let number = unsafe {
+        choose(
+            &mut state,
+            items.as_ptr(),
+            items.len(),
+            lower.as_ptr(),
+            lower.len(),
+            upper.as_ptr(),
+            upper.len(),
+            budget,
+            &mut out,
+        )
+    };
+    (number, out, state)
+}
+
+#[test]
+fn a_choice_writes_zeros_where_there_is_no_item() {
+    for choose in CHOOSERS {
+        let none: [&[u32]; 2] = [&[0], &[u32::MAX]];
+        for budget in [0, 9] {
+            assert_eq!(choice(choose, STATE, 0, none, budget), (0, [0; 3], STATE));
+        }
+        // One item reads no word.
+        let one: [&[u32]; 2] = [&[0, 0], &[u32::MAX, 0]];
+        assert_eq!(choice(choose, STATE, 1, one, 0), (0, [0, 1, 5], STATE));
+        let (number, [words, is_there, item], _) =
+            choice(choose, STATE, 3, [&[0; 4], &[u32::MAX; 4]], 9);
+        assert_eq!((number, is_there), (0, 1));
+        assert!(words > 0 && (5..8).contains(&item));
+    }
+}
+
+#[test]
+fn a_refused_choice_writes_no_item() {
+    let good: [&[u32]; 2] = [&[0; 4], &[u32::MAX; 4]];
+    let short: [&[u32]; 2] = [&[0; 3], &[u32::MAX; 4]];
+    for choose in CHOOSERS {
+        let refused = (12, [0; 3], [0; 4]);
+        assert_eq!(choice(choose, [0; 4], 3, good, 9), refused);
+        assert_eq!(choice(choose, [0; 4], 3, short, 0), refused);
+        for budget in [0, 9] {
+            let refused = (11, [0; 3], STATE);
+            assert_eq!(choice(choose, STATE, 3, short, budget), refused);
+        }
+        assert_eq!(choice(choose, STATE, 3, good, 0), (13, [0; 3], STATE));
+    }
+    // A draw below 3 whose first word has a second: the low half of 1431655765 * 3 is 2^32 - 1.
+    let exact: [&[u32]; 2] = [&[3, 2, 1, 0]; 2];
+    // The first word of this state is 1431655765.
+    let state = [0, 0, 0, 1431655765 << 9];
+    let (number, out, after) = choice(gapyndura_choose, state, 3, exact, 1);
+    assert_eq!((number, out), (13, [1, 0, 0]));
+    assert_ne!(after, state);
+    let (number, [words, is_there, _], _) = choice(gapyndura_choose, state, 3, exact, 2);
+    assert_eq!((number, words, is_there), (0, 2, 1));
 }

@@ -1,0 +1,111 @@
+//! The choices of the list. A feed has at most 2,000 items.
+
+use reference::State;
+use reference::call::Call;
+use reference::choose_line::{MOST_FEED, PATTERNS, Patterned};
+use reference::words::giving;
+
+use crate::contents::{Section, some_state};
+
+/// A budget that no choice of the list uses up.
+const ENOUGH: u64 = 1000;
+
+/// Numbers of items that are tried with every pattern of hints, the false ones too.
+const EVERY_PATTERN: [usize; 2] = [5, 100];
+
+/// Other numbers of items, each with a pattern that holds.
+const FEEDS: [(usize, u64); 11] = [
+    (0, 0),
+    (0, 1),
+    (1, 0),
+    (2, 0),
+    (3, 2),
+    (4, 7),
+    (33, 3),
+    (64, 4),
+    (1000, 0),
+    (MOST_FEED, 2),
+    (MOST_FEED, 4),
+];
+
+/// All choices of the list.
+pub fn sections() -> Vec<Section> {
+    vec![patterns(), feeds(), budgets(), refusals()]
+}
+
+/// Both choices of such a line.
+fn both(line: Patterned) -> [Call; 2] {
+    [Call::Choose(line.clone()), Call::ChooseStable(line)]
+}
+
+/// A line with a budget that is enough.
+fn line(from: State, items_len: usize, pattern: u64) -> Patterned {
+    Patterned {
+        from,
+        budget: ENOUGH,
+        items_len,
+        pattern,
+    }
+}
+
+fn patterns() -> Section {
+    let feeds = (600..).zip(EVERY_PATTERN);
+    let lines = feeds.flat_map(|(number, items_len)| {
+        (0..PATTERNS).map(move |pattern| line(some_state(number), items_len, pattern))
+    });
+    Section::new(
+        "Choices with hints of every pattern",
+        lines.flat_map(both).collect(),
+    )
+}
+
+fn feeds() -> Section {
+    let lines = (620..)
+        .zip(FEEDS)
+        .map(|(number, (items_len, pattern))| line(some_state(number), items_len, pattern));
+    Section::new(
+        "Choices from no items, few and many",
+        lines.flat_map(both).collect(),
+    )
+}
+
+/// Budgets that end a choice at each of its words: coins, a draw between coins, and a draw whose second word is read.
+fn budgets() -> Section {
+    let between_coins = line(some_state(640), 5, 7);
+    let coins = line(some_state(641), 20, 0);
+    // Of 12 items at least 6 remain: the draw below 6 with two words that document 01 works out, then one below 9, and coins.
+    let draws = line(giving(715827882, 2863311531, 1), 12, 2);
+    let mut calls = Vec::new();
+    for of in [between_coins, draws] {
+        calls.extend((0..5).map(|budget| {
+            Call::Choose(Patterned {
+                budget,
+                ..of.clone()
+            })
+        }));
+    }
+    calls.extend((0..4).map(|budget| {
+        Call::ChooseStable(Patterned {
+            budget,
+            ..coins.clone()
+        })
+    }));
+    Section::new("Choices with few words to read", calls)
+}
+
+/// No generator before false hints, and these before a budget of 0. No item and one item need no word.
+fn refusals() -> Section {
+    let mut lines: Vec<Patterned> = [(3, 0), (3, 5), (0, 6)]
+        .map(|(items_len, pattern)| line([0; 4], items_len, pattern))
+        .to_vec();
+    for (items_len, pattern) in [(0, 5), (0, 6), (7, 5), (7, 6), (0, 0), (1, 3), (2, 1)] {
+        lines.push(Patterned {
+            budget: 0,
+            ..line(some_state(650), items_len, pattern)
+        });
+    }
+    Section::new(
+        "Choices that are refused, and choices without budget",
+        lines.into_iter().flat_map(both).collect(),
+    )
+}
