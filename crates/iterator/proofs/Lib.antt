@@ -7,3 +7,5 @@ pub mod ChoiceTurns
 pub mod StableTurns
 pub mod ChooseTurns
 pub mod ChooseCases
+pub mod NoneExactly
+pub mod Choosing

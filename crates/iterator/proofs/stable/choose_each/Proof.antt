@@ -8,8 +8,8 @@ use borrow.Author.Needs.{needs}
 use borrow.Author.Tests.{not-true, not-false}
 use Rattle.coin_flipper.specs.State.{seen}
 use Rattle.iterator.proofs.StableTurns.{Turns, begin, again, stop, finish}
-use Rattle.iterator.proofs.choose.choose_each.Statement.{statement}
-use Rattle.iterator.proofs.choose.choose_each.Tie as tie
+use Rattle.iterator.proofs.stable.choose_each.Statement.{statement}
+use Rattle.iterator.proofs.stable.choose_each.Tie as tie
 
 abbrev Inv-loop : tie.InvT-loop
 Inv-loop items budget flipper₀ held₀ consumed₀ flipper held consumed = Turns budget items (seen flipper₀) consumed held flipper

@@ -5,8 +5,8 @@ use denote.Ref.{now}
 use lib.ListN.{length}
 use borrow.Author.Needs.{needs}
 use Rattle.iterator.proofs.ChooseCases.{exact-none, exact-one, exact-spent, exact-item, exact-below}
-use Rattle.iterator.proofs.choose.choose_exact.Statement.{statement}
-use Rattle.iterator.proofs.choose.choose_exact.Tie as tie
+use Rattle.iterator.proofs.by_hints.choose_exact.Statement.{statement}
+use Rattle.iterator.proofs.by_hints.choose_exact.Tie as tie
 
 ended-requires : tie.Need-ended-requires
 ended-requires c κs = search needs
