@@ -82,11 +82,11 @@ module _ (budget : ℕ) (lower upper items : List ℕ) (s₀ : Coins) where
         again d i g =
             record {
               goes =
-                sym
-                (turn
-                ∙ rw (n, d)
-                (skipped budget lower upper (drop (suc p) items) (getD lower p 0 - 1) (suc p) (answerOfChoice (r .held) .values) (seen (r .flipper))
-                ∙ rw (drop-drop (getD lower p 0 - 1) (suc p) items, add-suc p (getD lower p 0 - 1), suc-add p (getD lower p 0 - 1))));
+                  sym
+                  (turn
+                  ∙ rw (n, d)
+                  (skipped budget lower upper (drop (suc p) items) (getD lower p 0 - 1) (suc p) (answerOfChoice (r .held) .values) (seen (r .flipper))
+                  ∙ rw (drop-drop (getD lower p 0 - 1) (suc p) items, add-suc p (getD lower p 0 - 1), suc-add p (getD lower p 0 - 1))));
               some = n;
               good = g;
               upto = omega (arith, i .least p (omega arith));

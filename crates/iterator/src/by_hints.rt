@@ -16,8 +16,8 @@ use super::turns::goes_on;
 use super::turns::turn_at;
 use coin_flipper::CoinFlipper;
 use refusal::Refusal;
-use uniform_int::random_range_within;
 use uniform_int::Draw;
+use uniform_int::random_range_within;
 use xoshiro256plusplus::Xoshiro256PlusPlus;
 
 // The count of the items is known: none, the one, or one draw. The definition is `exactly`.
@@ -30,17 +30,20 @@ pub(crate) fn choose_exact(rng: Xoshiro256PlusPlus, items: &[u32], budget: u64) 
         return ended(Choice::Nothing, 0, rng);
     }
     if count == 1 {
-        return ended(Choice::Item(items[0]), 0, rng);
+        let only = items[0];
+        return ended(Choice::Item(only), 0, rng);
     }
     let range = count as u32;
     let drawn = random_range_within(rng, range, 0, budget);
     let after = drawn.rng;
+    let words = drawn.words;
     let draw = drawn.draw;
     let Draw::Value(ix) = draw else {
-        return ended(Choice::Refused(Refusal::BudgetExhausted), drawn.words, after);
+        return ended(Choice::Refused(Refusal::BudgetExhausted), words, after);
     };
     let place = ix as usize;
-    ended(Choice::Item(items[place]), drawn.words, after)
+    let item = items[place];
+    ended(Choice::Item(item), words, after)
 }
 
 // Whether a turn was a draw for all the items that remain, which is so where both hints agree: the definition `drawnLast`.

@@ -24,7 +24,8 @@ pub(crate) fn choose_each(rng: Xoshiro256PlusPlus, items: &[u32], budget: u64) -
     let mut consumed: usize = 0;
     while consumed < items.len() {
         let n = (consumed + 1) as u32;
-        let turn = by_coin(flipper, held, items[consumed], n, budget);
+        let item = items[consumed];
+        let turn = by_coin(flipper, held, item, n, budget);
         let next = turn.flipper;
         let holds = turn.held;
         if !goes_on(holds) {

@@ -10,8 +10,8 @@ use super::choose::Choice;
 use coin_flipper::CoinFlipper;
 use coin_flipper::Flip;
 use refusal::Refusal;
-use uniform_int::random_range_within;
 use uniform_int::Draw;
+use uniform_int::random_range_within;
 
 // What is held, and the coins. Where the budget ran out, the refusal is held.
 pub(crate) struct Turn {
@@ -68,7 +68,8 @@ pub(crate) fn by_draw(
     ensures { λ r. ⌜ (turned r ≡ byDraw budget least at (drop at (now (items .entry))) (answerOfChoice held .values) (seen flipper)) × (Held budget (r .flipper)) ⌝ }
 {
     let rng = flipper.rng;
-    let range = least + at as u32;
+    let consumed = at as u32;
+    let range = least + consumed;
     let drawn = random_range_within(rng, range, flipper.words, budget);
     let after = drawn.rng;
     let next = CoinFlipper {
@@ -91,8 +92,9 @@ pub(crate) fn by_draw(
         };
     }
     let place = at + ix as usize;
+    let item = items[place];
     Turn {
-        held: Choice::Item(items[place]),
+        held: Choice::Item(item),
         flipper: next,
     }
 }
@@ -113,5 +115,6 @@ pub(crate) fn turn_at(
         return by_draw(flipper, held, items, at, least, budget);
     }
     let n = (at + 1) as u32;
-    by_coin(flipper, held, items[at], n, budget)
+    let item = items[at];
+    by_coin(flipper, held, item, n, budget)
 }

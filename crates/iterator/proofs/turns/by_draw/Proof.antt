@@ -6,8 +6,8 @@ use Rattle.iterator.proofs.ChoiceTurns.{held-drawn, draw-spent, draw-ta
 use Rattle.iterator.proofs.turns.by_draw.Statement.{statement}
 use Rattle.iterator.proofs.turns.by_draw.Tie as tie
 
-cast-range : tie.Need-cast-range
-cast-range c = search needs
+cast-consumed : tie.Need-cast-consumed
+cast-consumed c = search needs
 
 add-range : tie.Need-add-range
 add-range c = search needs
@@ -45,11 +45,11 @@ cast-place c = search needs
 add-place : tie.Need-add-place
 add-place c = search needs
 
-mul-t19 : tie.Need-mul-t19
-mul-t19 c = search needs
+mul-item : tie.Need-mul-item
+mul-item c = search needs
 
-shared-slice-read-t15 : tie.Need-shared-slice-read-t15
-shared-slice-read-t15 c = search needs
+shared-slice-read-item : tie.Need-shared-slice-read-item
+shared-slice-read-item c = search needs
 
 returns-3 : tie.Need-returns-3
 returns-3 c =
@@ -65,7 +65,7 @@ pub by-draw-spec : {M : Type 1} → statement M
 by-draw-spec =
     tie.close
     (tie.spec
-    cast-range
+    cast-consumed
     add-range
     random-range-within-requires
     enum-known-draw
@@ -74,6 +74,6 @@ by-draw-spec =
     returns-2
     cast-place
     add-place
-    mul-t19
-    shared-slice-read-t15
+    mul-item
+    shared-slice-read-item
     returns-3)
