@@ -4,8 +4,7 @@ use mathlib.Core.Path.{_≡_, refl, sym, ap, _∙_}
 use mathlib.Core.Bool.{Bool, true, false, cond}
 use mathlib.Core.Logic.{⊎-elim}
 use mathlib.Core.List.{List, [], _∷_}
-use Prim.Native.Nat.{ℕ, zero, suc, _+_, _-_, _≤_, _<_}
-use native.Mathlib.Nat.{add-zero}
+use Prim.Native.Nat.{ℕ, zero, suc, _+_, _-_, _<_}
 use native.Mathlib.Omega.{arith}
 use lib.Dec.{ltb, eqb}
 use lib.ListN.{length, getD}
@@ -18,13 +17,12 @@ use Rattle.refusal.specs.declared.Refusal.{Refusal}
 use Rattle.refusal.specs.declared.Refusal.the-variants.{BudgetExhausted}
 use Rattle.xoshiro256plusplus.specs.declared.Xoshiro256PlusPlus.{Xoshiro256PlusPlus}
 use Rattle.uniform_int.specs.Rejecting.{Drawing}
-use Rattle.uniform_int.specs.Within.{boundedWithin}
 use Rattle.uniform_int.proofs.Laws.{within-ends, within-lt}
-use Rattle.coin_flipper.specs.Within.{Coins, Flipping, oneOverWithin, start}
+use Rattle.coin_flipper.specs.Within.{Coins, oneOverWithin, start}
 use Rattle.coin_flipper.proofs.Laws.{one-over-one}
 use Rattle.iterator.specs.Turns.{ending, after, given, taking, byCoin, drawing, byDraw}
 use Rattle.iterator.specs.Stable.{stableFrom}
-use Rattle.iterator.specs.Choose.{itemAt, exactly, turnOf, drawnLast, chooseFrom, checkOf, chooseOf, chooseStableOf}
+use Rattle.iterator.specs.Choose.{exactly, turnOf, drawnLast, chooseFrom, checkOf, chooseOf, chooseStableOf}
 use Rattle.iterator.proofs.ChoiceTurns.{some-number}
 use Rattle.iterator.proofs.ChooseCases.{choose-refused, stable-refused, stable, known, unknown}
 

@@ -1,5 +1,5 @@
 -- `choose_by_hints` meets its contract. The invariant is `Turns` of `ChooseTurns`. Assumes nothing.
-use mathlib.Core.Path.{_≡_, refl, sym, _∙_}
+use mathlib.Core.Path.{refl, sym, _∙_}
 use Prim.Native.Nat.{_-_}
 use native.Mathlib.Omega.{arith}
 use denote.Ref.{now}

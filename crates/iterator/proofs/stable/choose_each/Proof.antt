@@ -1,5 +1,5 @@
 -- `choose_each` meets its contract. The invariant is `Turns` of `StableTurns`. Assumes nothing.
-use mathlib.Core.Path.{_≡_, sym, _∙_}
+use mathlib.Core.Path.{sym, _∙_}
 use Prim.Native.Nat.{_-_}
 use native.Mathlib.Omega.{arith}
 use denote.Ref.{now}
