@@ -3,6 +3,7 @@
 use Rattle.iterator.specs.Choosing.{Choosing}
 use Rattle.iterator.proofs.ChooseCases.{stable}
 use Rattle.iterator.proofs.NoneExactly.{choose-none, stable-none, choose-empty, stable-empty}
+use Rattle.iterator.proofs.ChoiceWords.{choose-reads, stable-reads}
 
 pub choosing : Choosing
 choosing =
@@ -12,4 +13,6 @@ choosing =
       stable-none = stable-none;
       choose-empty = choose-empty;
       stable-empty = stable-empty;
+      choose-reads = choose-reads;
+      stable-reads = stable-reads;
     }

@@ -8,4 +8,5 @@ pub mod StableTurns
 pub mod ChooseTurns
 pub mod ChooseCases
 pub mod NoneExactly
+pub mod ChoiceWords
 pub mod Choosing

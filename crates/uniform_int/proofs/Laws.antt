@@ -13,7 +13,7 @@ use lib.Dec.{leb}
 use borrow.Author.Tests.{lt-ltb, le-ltb, le-leb, lt-leb, leb-true}
 use Rattle.xoshiro256plusplus.specs.Generator.{word, advance, steps}
 use Rattle.xoshiro256plusplus.specs.declared.Xoshiro256PlusPlus.{Xoshiro256PlusPlus}
-use Rattle.xoshiro256plusplus.proofs.Laws.{word-lt, steps-zero, steps-one}
+use Rattle.xoshiro256plusplus.proofs.Laws.{word-lt, steps-zero, steps-one, steps-add}
 use Rattle.counting.specs.Lists.{Within}
 use Rattle.refusal.specs.Answer.{done, declined}
 use Rattle.refusal.specs.declared.Refusal.the-variants.{BudgetExhausted}
@@ -59,6 +59,15 @@ words-le r g = go (readsTwo (2 ^ 32) r (word g))
     go true = omega arith
     go false = omega arith
 
+-- the generator afterwards is the one after so many words
+pub bounded-steps : (r : ℕ) (g : Xoshiro256PlusPlus) → bounded r g .rng ≡ steps (bounded r g .words) g
+unfolding bounded steps
+bounded-steps r g = go (readsTwo (2 ^ 32) r (word g))
+  where
+    go : (b : Bool) → cond b (advance (advance g)) (advance g) ≡ steps (cond b 2 1) g
+    go true = refl
+    go false = refl
+
 -- ---- the bounded draw within a budget: n words are left and k are read
 
 module _ (r n k : ℕ) (g : Xoshiro256PlusPlus) where
@@ -103,6 +112,31 @@ module _ (r n k : ℕ) (g : Xoshiro256PlusPlus) where
       (λ a. let q : bounded r g .value ≡ v = cc in omega (arith, q, bounded-lt r g hr))
       (λ a. let z : _≡_ {A = ℕ} 0 1 = cc in absurd (omega arith))
       within-ends
+
+  -- where it is spent, all that are left are read
+  pub within-spent : boundedWithin r n g k .answer .values ≡ [] → boundedWithin r n g k .words ≡ k + n
+  unfolding boundedWithin
+  within-spent = go (leb (bounded r g .words) n)
+    where
+      go : (b : Bool)
+          → (let d : Drawing = cond b (found (bounded r g .value) (k + bounded r g .words) (bounded r g .rng)) (spent (k + n) (steps n g)) in d .answer .values) ≡ []
+          → (let d : Drawing = cond b (found (bounded r g .value) (k + bounded r g .words) (bounded r g .rng)) (spent (k + n) (steps n g)) in d .words) ≡ k + n
+      go true e = let z : _≡_ {A = ℕ} 0 1 = cc in absurd (omega arith)
+      go false e = refl
+
+  -- the generator afterwards is the one after so many words from the start
+  pub within-steps : (g₀ : Xoshiro256PlusPlus) → g ≡ steps k g₀ → boundedWithin r n g k .rng ≡ steps (boundedWithin r n g k .words) g₀
+  unfolding boundedWithin
+  within-steps g₀ e = go (leb (bounded r g .words) n)
+    where
+      after : (m : ℕ) → steps m g ≡ steps (k + m) g₀
+      after m = ap (steps m) e ∙ steps-add k m g₀
+
+      go : (b : Bool)
+          → (let d : Drawing = cond b (found (bounded r g .value) (k + bounded r g .words) (bounded r g .rng)) (spent (k + n) (steps n g)) in d .rng)
+          ≡ steps (let d : Drawing = cond b (found (bounded r g .value) (k + bounded r g .words) (bounded r g .rng)) (spent (k + n) (steps n g)) in d .words) g₀
+      go true = bounded-steps r g ∙ after (bounded r g .words)
+      go false = after n
 
 -- ---- the rejecting draw: k of n words are read
 
