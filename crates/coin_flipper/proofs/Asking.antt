@@ -1,19 +1,18 @@
 -- A question asked of coins: its turns, and several coins at once.
 -- Assumes nothing.
-use mathlib.Core.Path.{_≡_, refl, sym, ap, _∙_}
+use mathlib.Core.Path.{_≡_, refl, sym, _∙_}
 use mathlib.Core.Bool.{Bool, true, false, cond}
 use mathlib.Core.Logic.{_⊎_, inl, inr, ⊎-elim}
 use mathlib.Core.List.{List, [], _∷_}
 use Prim.Native.Nat.{ℕ, zero, suc, _+_, _-_, _*_, _%_, _^_, _≤_, _<_}
 use native.Mathlib.Nat.{mul-one, mul-assoc, mul-comm, pow-succ', le-mul-of-pos-right}
-use native.Mathlib.Numerals.{add-one}
 use native.Mathlib.Omega.{arith}
 use lib.Pow.{pow-pos}
 use lib.ListN.{length}
 use lib.Dec.{leb, ltb}
 use borrow.Author.Tests.{lt-ltb, le-ltb, le-leb}
 use Rattle.counting.specs.Count.{oneIf}
-use Rattle.refusal.specs.Answer.{Answer, done}
+use Rattle.refusal.specs.Answer.{done}
 use Rattle.xoshiro256plusplus.specs.Generator.{word}
 use Rattle.coin_flipper.specs.Coins.{coinsOf, Row, settled, unsettled, ratio, heads}
 use Rattle.coin_flipper.specs.Within.{Coins, Flipping, refilled, leaving, exhausted, answered, asking, within}

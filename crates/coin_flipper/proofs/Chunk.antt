@@ -1,15 +1,13 @@
 -- Several coins at once: the zeros at the top of a chunk are heads.
 -- Assumes nothing.
 use mathlib.Core.Path.{_≡_, refl, sym, ap, _∙_, subst}
-use mathlib.Core.Bool.{Bool, true, false, cond}
+use mathlib.Core.Bool.{Bool, true, false}
 use mathlib.Core.Logic.{_⊎_, inl, inr, ⊎-elim}
-use mathlib.Core.List.{List, [], _∷_}
 use Prim.Native.Nat.{ℕ, zero, suc, _+_, _-_, _*_, _/_, _%_, _^_, _≤_, _<_}
-use native.Mathlib.Nat.{zero-add, suc-add, add-suc, add-comm, mul-one, mul-assoc, mul-comm, pow-suc, mod-eq-of-lt, mod-mod-of-dvd, dvd-mul-right, mul-mod-left, mul-le-mul-left, mul-le-mul-right, div-add-mod', add-zero, eq-zero-or-pos, le-mul-of-pos-right, lt-of-lt-of-le, zero-mul}
-use native.Mathlib.Numerals.{add-one}
+use native.Mathlib.Nat.{zero-add, suc-add, add-comm, mul-one, mul-assoc, mul-comm, pow-suc, mod-eq-of-lt, mod-mod-of-dvd, dvd-mul-right, mul-mod-left, mul-le-mul-left, mul-le-mul-right, div-add-mod', add-zero, eq-zero-or-pos, le-mul-of-pos-right, lt-of-lt-of-le}
 use native.Mathlib.Omega.{arith}
 use lib.Pow.{pow-pos, pow-add, pow-mono, shl-lt}
-use lib.Count.{leadingZeros, leading-le, leading-of-zero, leading-top, leading-length}
+use lib.Count.{leadingZeros, leading-of-zero, leading-top, leading-length}
 use lib.ListN.{length}
 use lib.Dec.{ltb}
 use borrow.Author.Tests.{lt-ltb, le-ltb, ltb-true, ltb-false}

@@ -3,3 +3,4 @@ pub mod Asking
 pub mod Heads
 pub mod Ratio
 pub mod Laws
+pub mod Words

@@ -3,14 +3,14 @@
 use mathlib.Core.Path.{_≡_, refl, sym, ap, _∙_, subst}
 use mathlib.Core.Logic.{_⊎_, ⊎-elim}
 use mathlib.Core.Bool.{true}
-use mathlib.Core.List.{List, [], _∷_}
+use mathlib.Core.List.{[]}
 use Prim.Native.Nat.{ℕ, zero, suc, _+_, _-_, _*_, _%_, _^_, _≤_, _<_}
 use native.Mathlib.Nat.{mul-comm, mod-eq-of-lt, le-mul-of-pos-right}
 use native.Mathlib.Omega.{arith}
 use lib.ListN.{length}
 use lib.Pow.{pow-pos}
 use borrow.Author.Tests.{le-leb, lt-leb}
-use Rattle.coin_flipper.specs.Coins.{coinsOf, heads, ratio}
+use Rattle.coin_flipper.specs.Coins.{ratio}
 use Rattle.coin_flipper.specs.Within.{Flipping, headsWithin, ratioWithin}
 use Rattle.coin_flipper.specs.State.{answerOf, seen, told, Held, AtOnce}
 use Rattle.coin_flipper.specs.declared.CoinFlipper.{CoinFlipper}

@@ -22,6 +22,7 @@ answerOf Spent = declined BudgetExhausted
 abbrev pub seen : CoinFlipper → Coins
 seen f = record { left = coinsOf (f .«chunk_remaining») (f .chunk); rng = f .rng; words = f .words }
 
+-- an answer and the coins after it
 abbrev pub told : Flipped → Flipping
 told r = record { answer = answerOf (r .flip); coins = seen (r .flipper) }
 

@@ -1,8 +1,8 @@
 -- The two turns of a choice, as the code takes them.
 -- Assumes nothing.
-use mathlib.Core.Path.{_≡_, refl, sym, ap, _∙_}
-use mathlib.Core.Bool.{true, false, false≢true}
-use mathlib.Core.List.{List, [], _∷_}
+use mathlib.Core.Path.{_≡_, refl, sym, ap}
+use mathlib.Core.Bool.{false, false≢true}
+use mathlib.Core.List.{List}
 use Prim.Native.Nat.{ℕ, zero, suc, _+_, _-_, _≤_, _<_}
 use native.Mathlib.Nat.{add-zero}
 use native.Mathlib.Numerals.{add-one}
@@ -15,21 +15,20 @@ use Rattle.refusal.specs.Answer.{done}
 use Rattle.refusal.specs.Number.{number}
 use Rattle.refusal.specs.declared.Refusal.{Refusal}
 use Rattle.refusal.specs.declared.Refusal.the-variants.{AmountExceedsLength, NoWeights, Overflow, InsufficientNonZero, PlacesNotIncreasing, PlaceOutOfRange, InvalidTable, SliceTooShort, ScratchTooShort, TooLong, InvalidHints, ZeroState, BudgetExhausted}
-use Rattle.uniform_int.specs.Rejecting.{Drawing, shown}
+use Rattle.uniform_int.specs.Rejecting.{shown}
 use Rattle.uniform_int.specs.Within.{boundedWithin}
 use Rattle.uniform_int.specs.declared.Sampled.{Sampled}
 use Rattle.uniform_int.specs.declared.Draw.the-variants.{Value, Spent as NoValue}
 use Rattle.uniform_int.proofs.Laws.{within-words}
-use Rattle.coin_flipper.specs.Within.{Coins, Flipping, oneOverWithin}
+use Rattle.coin_flipper.specs.Within.{Coins, oneOverWithin}
 use Rattle.coin_flipper.specs.State.{seen, told, Held}
 use Rattle.coin_flipper.specs.declared.CoinFlipper.{CoinFlipper}
 use Rattle.coin_flipper.specs.declared.Flip.the-variants.{Yes, No, Spent}
 use Rattle.coin_flipper.specs.declared.Flipped.{Flipped}
-use Rattle.iterator.specs.Turns.{answerOfChoice, turned, given, taking, byCoin, byDraw}
+use Rattle.iterator.specs.Turns.{answerOfChoice, turned, byCoin, byDraw}
 use Rattle.iterator.specs.Choose.{turnOf}
 use Rattle.iterator.specs.declared.choose.Choice.{Choice}
-use Rattle.iterator.specs.declared.choose.Choice.the-variants.{Item, Nothing, Refused}
-use Rattle.iterator.specs.declared.turns.Turn.{Turn}
+use Rattle.iterator.specs.declared.choose.Choice.the-variants.{Item, Refused}
 
 -- every refusal has a number above 0
 pub some-number : (why : Refusal) → eqb (number why) 0 ≡ false

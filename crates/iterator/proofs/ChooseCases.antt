@@ -2,15 +2,14 @@
 -- Assumes nothing.
 use mathlib.Core.Path.{_≡_, refl, sym, ap, _∙_}
 use mathlib.Core.Bool.{Bool, true, false, cond}
-use mathlib.Core.List.{List, [], _∷_}
+use mathlib.Core.List.{List, []}
 use Prim.Native.Nat.{ℕ, suc, _-_, _^_, _≤_, _<_}
 use native.Mathlib.Nat.{sub-zero}
 use native.Mathlib.Omega.{arith}
 use lib.Dec.{ltb}
 use lib.ListN.{length, getD}
-use borrow.Author.Tests.{lt-ltb, le-ltb, ltb-true, ltb-false, eq-eqb, ne-eqb}
-use Rattle.refusal.specs.Answer.{done, declined}
-use Rattle.refusal.specs.declared.Outcome.{Outcome}
+use borrow.Author.Tests.{lt-ltb, le-ltb, ltb-false, eq-eqb, ne-eqb}
+use Rattle.refusal.specs.Answer.{declined}
 use Rattle.refusal.specs.declared.Outcome.the-variants.{Done, Refused}
 use Rattle.refusal.specs.declared.Refusal.{Refusal}
 use Rattle.refusal.specs.declared.Refusal.the-variants.{TooLong, InvalidHints, ZeroState, BudgetExhausted}
@@ -25,9 +24,9 @@ use Rattle.coin_flipper.specs.Within.{start}
 use Rattle.iterator.specs.Hints.{hintsHold}
 use Rattle.iterator.specs.Turns.{chosen, ending}
 use Rattle.iterator.specs.Stable.{stableFrom}
-use Rattle.iterator.specs.Choose.{itemAt, exactly, chooseFrom, checkOf, unless, chooseOf, chooseStableOf}
+use Rattle.iterator.specs.Choose.{itemAt, exactly, chooseFrom, checkOf, chooseOf, chooseStableOf}
 use Rattle.iterator.specs.declared.choose.Choice.the-variants.{Item, Nothing, Refused as RefusedChoice}
-use Rattle.iterator.proofs.HintsChecked.{Hinted, hinted}
+use Rattle.iterator.proofs.HintsChecked.{hinted}
 use Rattle.iterator.proofs.StableTurns.{in-order}
 
 -- ---- the checks before a word is read

@@ -24,6 +24,7 @@ abbrev pub itemAt : (items : List ℕ) → Drawing → Drawing
 itemAt items d =
     record { answer = record { number = d .answer .number; values = map (λ ix. getD items ix 0) (d .answer .values) }; words = d .words; rng = d .rng }
 
+-- with this count of items
 unfoldable pub exactly : (budget : ℕ) (items : List ℕ) (count : ℕ) → Xoshiro256PlusPlus → Drawing
 exactly budget items zero g = ending (done []) (start g)
 exactly budget items (suc zero) g = ending (done (getD items 0 0 ∷ [])) (start g)
@@ -61,10 +62,12 @@ abbrev pub unless : Outcome → Xoshiro256PlusPlus → Drawing → Drawing
 unless Done g d = d
 unless (Refused why) g d = ending (declined why) (start g)
 
+-- `choose`: one draw where the two hints at the start agree ("no upper" agrees with no lower hint that holds), else turn by turn
 unfoldable pub chooseOf : Xoshiro256PlusPlus → (items lower upper : List ℕ) (budget : ℕ) → Drawing
 chooseOf g items lower upper budget =
     unless (checkOf g items lower upper) g
     (cond (eqb (getD upper 0 0) (getD lower 0 0)) (exactly budget items (getD lower 0 0) g) (chooseFrom budget lower upper items 0 0 [] (start g)))
 
+-- `choose_stable`
 unfoldable pub chooseStableOf : Xoshiro256PlusPlus → (items lower upper : List ℕ) (budget : ℕ) → Drawing
 chooseStableOf g items lower upper budget = unless (checkOf g items lower upper) g (stableByHints budget lower items 0 0 [] [] (start g))

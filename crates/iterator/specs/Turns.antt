@@ -33,11 +33,12 @@ turned t = record { answer = answerOfChoice (t .held); coins = seen (t .flipper)
 abbrev pub ending : Answer → Coins → Drawing
 ending a s = record { answer = a; words = s .words; rng = s .rng }
 
--- after a turn: goes on with what is held, or ends where the budget ran out
+-- the call goes on with what is held where the number is 0, and else ends with the turn's answer
 abbrev pub next : (number : ℕ) → Flipping → (List ℕ → Coins → Drawing) → Drawing
 next zero t more = more (t .answer .values) (t .coins)
 next (suc n) t more = ending (t .answer) (t .coins)
 
+-- after a turn: goes on with what is held, or ends where the budget ran out
 abbrev pub after : Flipping → (List ℕ → Coins → Drawing) → Drawing
 after t more = next (t .answer .number) t more
 

@@ -12,6 +12,7 @@ use coin_flipper::Flip;
 use refusal::Refusal;
 use uniform_int::Draw;
 use uniform_int::random_range_within;
+use xoshiro256plusplus::Xoshiro256PlusPlus;
 
 // What is held, and the coins. Where the budget ran out, the refusal is held.
 pub(crate) struct Turn {
@@ -54,8 +55,19 @@ pub(crate) fn by_coin(flipper: CoinFlipper, held: Choice, item: u32, n: u32, bud
     }
 }
 
-// One bounded draw for the `least` items from place `at` on and those before them: the definition `byDraw`. The coins that are left of the
-// last word stay.
+// The coins after a draw: those that are left of the last word stay.
+fn after_draw(flipper: CoinFlipper, rng: Xoshiro256PlusPlus, words: u64) -> CoinFlipper
+    ensures { λ r. ⌜ r ≡ record { rng = rng; chunk = flipper .chunk; «chunk_remaining» = flipper .«chunk_remaining»; words = words } ⌝ }
+{
+    CoinFlipper {
+        rng: rng,
+        chunk: flipper.chunk,
+        chunk_remaining: flipper.chunk_remaining,
+        words: words,
+    }
+}
+
+// One bounded draw for the `least` items from place `at` on and those before them: the definition `byDraw`.
 pub(crate) fn by_draw(
     flipper: CoinFlipper,
     held: Choice,
@@ -68,15 +80,11 @@ pub(crate) fn by_draw(
     ensures { λ r. ⌜ (turned r ≡ byDraw budget least at (drop at (now (items .entry))) (answerOfChoice held .values) (seen flipper)) × (Held budget (r .flipper)) ⌝ }
 {
     let rng = flipper.rng;
-    let range = least + at as u32;
+    let consumed = at as u32;
+    let range = least + consumed;
     let drawn = random_range_within(rng, range, flipper.words, budget);
     let after = drawn.rng;
-    let next = CoinFlipper {
-        rng: after,
-        chunk: flipper.chunk,
-        chunk_remaining: flipper.chunk_remaining,
-        words: drawn.words,
-    };
+    let next = after_draw(flipper, after, drawn.words);
     let draw = drawn.draw;
     let Draw::Value(ix) = draw else {
         return Turn {
@@ -91,8 +99,9 @@ pub(crate) fn by_draw(
         };
     }
     let place = at + ix as usize;
+    let item = items[place];
     Turn {
-        held: Choice::Item(items[place]),
+        held: Choice::Item(item),
         flipper: next,
     }
 }
@@ -113,5 +122,6 @@ pub(crate) fn turn_at(
         return by_draw(flipper, held, items, at, least, budget);
     }
     let n = (at + 1) as u32;
-    by_coin(flipper, held, items[at], n, budget)
+    let item = items[at];
+    by_coin(flipper, held, item, n, budget)
 }

@@ -1,8 +1,8 @@
 -- What callers use of the generator's definitions.
 -- Assumes nothing.
-use mathlib.Core.Path.{_≡_, refl}
-use Prim.Native.Nat.{ℕ, _+_, _*_, _^_, _<_}
-use native.Mathlib.Nat.{mod-lt}
+use mathlib.Core.Path.{_≡_, refl, ap}
+use Prim.Native.Nat.{ℕ, zero, suc, _+_, _*_, _^_, _<_}
+use native.Mathlib.Nat.{mod-lt, add-zero, add-suc}
 use lib.Pow.{pow-pos, shr-lt}
 use Rattle.xoshiro256plusplus.specs.Word64.{add64, mul64}
 use Rattle.xoshiro256plusplus.specs.Splitmix64.{nextSeed}
@@ -41,3 +41,9 @@ steps-zero g = refl
 pub steps-one : (g : Xoshiro256PlusPlus) → steps 1 g ≡ advance g
 unfolding steps
 steps-one g = refl
+
+-- steps after steps
+pub steps-add : (k n : ℕ) (g : Xoshiro256PlusPlus) → steps n (steps k g) ≡ steps (k + n) g
+unfolding steps
+steps-add k zero g = rw (add-zero k)
+steps-add k (suc n) g = rw (add-suc k n) (ap advance (steps-add k n g))

@@ -1,9 +1,8 @@
 -- `flip_c_heads` meets its contract. The invariant is `Turn` of `Heads`; a refilled chunk has more coins than are wanted. Assumes nothing.
-use mathlib.Core.Path.{_≡_}
-use Prim.Native.Nat.{ℕ, _-_}
+use Prim.Native.Nat.{_-_}
 use native.Mathlib.Omega.{arith}
 use borrow.Author.Needs.{needs}
-use Rattle.coin_flipper.proofs.Heads.{Turn, Ends, begin, in-chunk, tails-turn, heads-turn, spent-turn, refill-turn}
+use Rattle.coin_flipper.proofs.Heads.{Turn, begin, in-chunk, tails-turn, heads-turn, spent-turn, refill-turn}
 use Rattle.coin_flipper.proofs.CoinFlipper.flip_c_heads.Statement.{statement}
 use Rattle.coin_flipper.proofs.CoinFlipper.flip_c_heads.Tie as tie
 

@@ -3,7 +3,6 @@ use mathlib.Core.Path.{sym}
 use Prim.Native.Nat.{_+_, _-_}
 use native.Mathlib.Omega.{arith}
 use denote.Ref.{now}
-use borrow.Author.Needs.{needs}
 use Rattle.iterator.proofs.HintsChecked.{wrong-lower, wrong-upper, Passed, begin, finish, too-few, too-many, pass}
 use Rattle.iterator.proofs.hints.hints_hold.Statement.{statement}
 use Rattle.iterator.proofs.hints.hints_hold.Tie as tie

@@ -6,14 +6,17 @@ use Rattle.iterator.proofs.ChoiceTurns.{held-drawn, draw-spent, draw-ta
 use Rattle.iterator.proofs.turns.by_draw.Statement.{statement}
 use Rattle.iterator.proofs.turns.by_draw.Tie as tie
 
-cast-range : tie.Need-cast-range
-cast-range c = search needs
+cast-consumed : tie.Need-cast-consumed
+cast-consumed c = search needs
 
 add-range : tie.Need-add-range
 add-range c = search needs
 
 random-range-within-requires : tie.Need-random-range-within-requires
 random-range-within-requires c κs = search needs
+
+after-draw-requires : tie.Need-after-draw-requires
+after-draw-requires c κs = search needs
 
 enum-known-draw : tie.Need-enum-known-draw
 enum-known-draw c = search needs
@@ -23,18 +26,21 @@ enum-told c = search needs
 
 returns : tie.Need-returns
 returns c =
-    let a = c .before .before .before .before .before .before .args in
-    let d = c .before .before .before .random-range-within in (
+    let s = c .before .before .before .before .before .before .before in
+    let a = s .args in
+    let d = c .before .before .before .before .random-range-within in
+    rw (c .before .before .after-draw .ensures) (
       draw-spent (a .budget) (a .least) (a .at) (now (a .items)) (a .held) (a .flipper) (d .result) (d .ensures) (c .enum-told .given .1),
-      held-drawn (a .budget) (a .least) (a .at) (now (a .items)) (a .held) (a .flipper) (d .result) (d .ensures) (c .before .before .before .before .before .before .pre .0),
+      held-drawn (a .budget) (a .least) (a .at) (now (a .items)) (a .held) (a .flipper) (d .result) (d .ensures) (s .pre .0),
     )
 
 returns-2 : tie.Need-returns-2
 returns-2 c =
-    let s = c .before .before .before .before .before .before .before .before in
+    let s = c .before .before .before .before .before .before .before .before .before in
     let a = s .args in
-    let d = c .before .before .before .before .before .random-range-within in
-    let v = c .before .before .draw .given in (
+    let d = c .before .before .before .before .before .before .random-range-within in
+    let v = c .before .before .draw .given in
+    rw (c .before .before .before .before .after-draw .ensures) (
       draw-left (a .budget) (a .least) (a .at) (now (a .items)) (a .held) (a .flipper) (d .result) (d .ensures) (v .0 .0) (v .1) (s .pre .1) (omega arith),
       held-drawn (a .budget) (a .least) (a .at) (now (a .items)) (a .held) (a .flipper) (d .result) (d .ensures) (s .pre .0),
     )
@@ -45,18 +51,19 @@ cast-place c = search needs
 add-place : tie.Need-add-place
 add-place c = search needs
 
-mul-t19 : tie.Need-mul-t19
-mul-t19 c = search needs
+mul-item : tie.Need-mul-item
+mul-item c = search needs
 
-shared-slice-read-t15 : tie.Need-shared-slice-read-t15
-shared-slice-read-t15 c = search needs
+shared-slice-read-item : tie.Need-shared-slice-read-item
+shared-slice-read-item c = search needs
 
 returns-3 : tie.Need-returns-3
 returns-3 c =
-    let s = c .before .before .before .before .before .before .before .before .before in
+    let s = c .before .before .before .before .before .before .before .before .before .before in
     let a = s .args in
-    let d = c .before .before .before .before .before .before .random-range-within in
-    let v = c .before .before .before .draw .given in (
+    let d = c .before .before .before .before .before .before .before .random-range-within in
+    let v = c .before .before .before .draw .given in
+    rw (c .before .before .before .before .before .after-draw .ensures) (
       draw-taken (a .budget) (a .least) (a .at) (now (a .items)) (a .held) (a .flipper) (d .result) (d .ensures) (v .0 .0) (v .1) (omega arith),
       held-drawn (a .budget) (a .least) (a .at) (now (a .items)) (a .held) (a .flipper) (d .result) (d .ensures) (s .pre .0),
     )
@@ -65,15 +72,16 @@ pub by-draw-spec : {M : Type 1} → statement M
 by-draw-spec =
     tie.close
     (tie.spec
-    cast-range
+    cast-consumed
     add-range
     random-range-within-requires
+    after-draw-requires
     enum-known-draw
     enum-told
     returns
     returns-2
     cast-place
     add-place
-    mul-t19
-    shared-slice-read-t15
+    mul-item
+    shared-slice-read-item
     returns-3)

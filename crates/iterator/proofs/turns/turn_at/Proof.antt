@@ -22,11 +22,11 @@ add-n c = search needs
 cast-n : tie.Need-cast-n
 cast-n c = search needs
 
-mul-by-coin : tie.Need-mul-by-coin
-mul-by-coin c = search needs
+mul-item : tie.Need-mul-item
+mul-item c = search needs
 
-shared-slice-read-by-coin : tie.Need-shared-slice-read-by-coin
-shared-slice-read-by-coin c = search needs
+shared-slice-read-item : tie.Need-shared-slice-read-item
+shared-slice-read-item c = search needs
 
 by-coin-requires : tie.Need-by-coin-requires
 by-coin-requires c κs = search needs
@@ -45,7 +45,7 @@ turn-at-spec =
     returns
     add-n
     cast-n
-    mul-by-coin
-    shared-slice-read-by-coin
+    mul-item
+    shared-slice-read-item
     by-coin-requires
     returns-2)

@@ -1,5 +1,5 @@
 -- `choose_each` meets its contract. The invariant is `Turns` of `StableTurns`. Assumes nothing.
-use mathlib.Core.Path.{_≡_, sym, _∙_}
+use mathlib.Core.Path.{sym, _∙_}
 use Prim.Native.Nat.{_-_}
 use native.Mathlib.Omega.{arith}
 use denote.Ref.{now}
@@ -8,8 +8,8 @@ use borrow.Author.Needs.{needs}
 use borrow.Author.Tests.{not-true, not-false}
 use Rattle.coin_flipper.specs.State.{seen}
 use Rattle.iterator.proofs.StableTurns.{Turns, begin, again, stop, finish}
-use Rattle.iterator.proofs.choose.choose_each.Statement.{statement}
-use Rattle.iterator.proofs.choose.choose_each.Tie as tie
+use Rattle.iterator.proofs.stable.choose_each.Statement.{statement}
+use Rattle.iterator.proofs.stable.choose_each.Tie as tie
 
 abbrev Inv-loop : tie.InvT-loop
 Inv-loop items budget flipper₀ held₀ consumed₀ flipper held consumed = Turns budget items (seen flipper₀) consumed held flipper
@@ -29,11 +29,11 @@ add-n c = search needs
 cast-n : tie.Need-cast-n Inv-loop μ-loop
 cast-n c = search needs
 
-mul-by-coin : tie.Need-mul-by-coin Inv-loop μ-loop
-mul-by-coin c = search needs
+mul-item : tie.Need-mul-item Inv-loop μ-loop
+mul-item c = search needs
 
-shared-slice-read-by-coin : tie.Need-shared-slice-read-by-coin Inv-loop μ-loop
-shared-slice-read-by-coin c = search needs
+shared-slice-read-item : tie.Need-shared-slice-read-item Inv-loop μ-loop
+shared-slice-read-item c = search needs
 
 by-coin-requires : tie.Need-by-coin-requires Inv-loop μ-loop
 by-coin-requires c κs = let t = c .before .before .loop .inv in (t .good, t .some, omega arith)
@@ -88,8 +88,8 @@ choose-each-spec =
     loop-holds
     add-n
     cast-n
-    mul-by-coin
-    shared-slice-read-by-coin
+    mul-item
+    shared-slice-read-item
     by-coin-requires
     goes-on-requires
     closing-requires

@@ -1,7 +1,7 @@
 -- `drawn_last` meets its contract. Assumes nothing.
 use borrow.Author.Tests.{lt-ltb, le-ltb}
-use Rattle.iterator.proofs.choose.drawn_last.Statement.{statement}
-use Rattle.iterator.proofs.choose.drawn_last.Tie as tie
+use Rattle.iterator.proofs.by_hints.drawn_last.Statement.{statement}
+use Rattle.iterator.proofs.by_hints.drawn_last.Tie as tie
 
 returns : tie.Need-returns
 returns c = rw (lt-ltb 1 (c .before .args .least) (c .if1 .taken))

@@ -5,8 +5,8 @@ use denote.Ref.{now}
 use lib.ListN.{length}
 use borrow.Author.Needs.{needs}
 use Rattle.iterator.proofs.ChooseCases.{exact-none, exact-one, exact-spent, exact-item, exact-below}
-use Rattle.iterator.proofs.choose.choose_exact.Statement.{statement}
-use Rattle.iterator.proofs.choose.choose_exact.Tie as tie
+use Rattle.iterator.proofs.by_hints.choose_exact.Statement.{statement}
+use Rattle.iterator.proofs.by_hints.choose_exact.Tie as tie
 
 ended-requires : tie.Need-ended-requires
 ended-requires c κs = search needs
@@ -16,8 +16,8 @@ returns c =
     let a = c .before .before .before .args in
     rw (c .ended .ensures) (sym (exact-none (a .budget) (now (a .items)) (length (now (a .items))) (a .rng) (c .before .if1 .taken)))
 
-shared-slice-read-t14 : tie.Need-shared-slice-read-t14
-shared-slice-read-t14 c = search needs
+shared-slice-read-only : tie.Need-shared-slice-read-only
+shared-slice-read-only c = search needs
 
 ended-requires-2 : tie.Need-ended-requires-2
 ended-requires-2 c κs = search needs
@@ -51,11 +51,11 @@ returns-3 c =
 cast-place : tie.Need-cast-place
 cast-place c = search needs
 
-mul-t18 : tie.Need-mul-t18
-mul-t18 c = search needs
+mul-item : tie.Need-mul-item
+mul-item c = search needs
 
-shared-slice-read-t20 : tie.Need-shared-slice-read-t20
-shared-slice-read-t20 c =
+shared-slice-read-item : tie.Need-shared-slice-read-item
+shared-slice-read-item c =
     let a = c .before .before .before .before .before .before .before .before .before .args in
     let d = c .before .before .before .before .before .random-range-within in
     let v = c .before .before .draw .given in
@@ -77,7 +77,7 @@ choose-exact-spec =
     (tie.spec
     ended-requires
     returns
-    shared-slice-read-t14
+    shared-slice-read-only
     ended-requires-2
     returns-2
     cast-range
@@ -87,7 +87,7 @@ choose-exact-spec =
     ended-requires-3
     returns-3
     cast-place
-    mul-t18
-    shared-slice-read-t20
+    mul-item
+    shared-slice-read-item
     ended-requires-4
     returns-4)

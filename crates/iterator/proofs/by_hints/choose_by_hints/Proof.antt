@@ -1,5 +1,5 @@
 -- `choose_by_hints` meets its contract. The invariant is `Turns` of `ChooseTurns`. Assumes nothing.
-use mathlib.Core.Path.{_≡_, refl, sym, _∙_}
+use mathlib.Core.Path.{refl, sym, _∙_}
 use Prim.Native.Nat.{_-_}
 use native.Mathlib.Omega.{arith}
 use denote.Ref.{now}
@@ -9,8 +9,8 @@ use borrow.Author.Tests.{not-true, not-false}
 use Rattle.coin_flipper.specs.State.{seen}
 use Rattle.iterator.proofs.HintsChecked.{Hinted, hinted}
 use Rattle.iterator.proofs.ChooseTurns.{Turns, begin, again, stop, last, finish}
-use Rattle.iterator.proofs.choose.choose_by_hints.Statement.{statement}
-use Rattle.iterator.proofs.choose.choose_by_hints.Tie as tie
+use Rattle.iterator.proofs.by_hints.choose_by_hints.Statement.{statement}
+use Rattle.iterator.proofs.by_hints.choose_by_hints.Tie as tie
 
 abbrev Inv-loop : tie.InvT-loop
 Inv-loop items lower upper budget flipper₀ held₀ consumed₀ flipper held consumed = Turns budget lower upper items (seen flipper₀) consumed held flipper

@@ -1,0 +1,97 @@
+// The choice that the hints guide.
+ghost use mathlib.Core.Path.{_≡_};
+ghost use mathlib.Core.Bool.{true};
+ghost use mathlib.Core.List.{[]};
+ghost use Prim.Native.Nat.{suc, _-_, _^_, _≤_};
+ghost use lib.ListN.{length};
+ghost use Rattle.coin_flipper.specs.Within.{start};
+ghost use Rattle.iterator.specs.Choose.{chooseFrom, drawnLast, exactly};
+ghost use Rattle.iterator.specs.Hints.{hintsHold};
+ghost use Rattle.iterator.specs.Turns.{chosen};
+use super::choose::Choice;
+use super::choose::Chosen;
+use super::choose::closing;
+use super::choose::ended;
+use super::turns::goes_on;
+use super::turns::turn_at;
+use coin_flipper::CoinFlipper;
+use refusal::Refusal;
+use uniform_int::Draw;
+use uniform_int::random_range_within;
+use xoshiro256plusplus::Xoshiro256PlusPlus;
+
+// The count of the items is known: none, the one, or one draw. The definition is `exactly`.
+pub(crate) fn choose_exact(rng: Xoshiro256PlusPlus, items: &[u32], budget: u64) -> Chosen
+    requires { ⌜ length (now items) ≤ 2 ^ 32 - 2 ⌝ }
+    ensures { λ r. ⌜ chosen r ≡ exactly budget (now (items .entry)) (length (now (items .entry))) rng ⌝ }
+{
+    let count = items.len();
+    if count == 0 {
+        return ended(Choice::Nothing, 0, rng);
+    }
+    if count == 1 {
+        let only = items[0];
+        return ended(Choice::Item(only), 0, rng);
+    }
+    let range = count as u32;
+    let drawn = random_range_within(rng, range, 0, budget);
+    let after = drawn.rng;
+    let words = drawn.words;
+    let draw = drawn.draw;
+    let Draw::Value(ix) = draw else {
+        return ended(Choice::Refused(Refusal::BudgetExhausted), words, after);
+    };
+    let place = ix as usize;
+    let item = items[place];
+    ended(Choice::Item(item), words, after)
+}
+
+// Whether a turn was a draw for all the items that remain, which is so where both hints agree: the definition `drawnLast`.
+fn drawn_last(least: u32, most: u32) -> bool
+    ensures { λ r. ⌜ r ≡ drawnLast least most ⌝ }
+{
+    least > 1 && most == least
+}
+
+// How many items a turn is for: so many as are sure to remain, and at least one.
+fn turn_length(least: u32) -> usize
+    ensures { λ r. ⌜ r ≡ suc (least - 1) ⌝ }
+{
+    if least > 1 {
+        return least as usize;
+    }
+    1
+}
+
+// Turn by turn, as the lower hints allow: the definition `chooseFrom`.
+pub(crate) fn choose_by_hints(
+    rng: Xoshiro256PlusPlus,
+    items: &[u32],
+    lower: &[u32],
+    upper: &[u32],
+    budget: u64,
+) -> Chosen
+    requires { ⌜ (length (now items) ≤ 2 ^ 32 - 2) × (hintsHold (length (now items)) (now lower) (now upper) ≡ true) ⌝ }
+    ensures { λ r. ⌜ chosen r ≡ chooseFrom budget (now (lower .entry)) (now (upper .entry)) (now (items .entry)) 0 0 [] (start rng) ⌝ }
+{
+    let mut flipper = CoinFlipper::new(rng);
+    let mut held = Choice::Nothing;
+    let mut consumed: usize = 0;
+    while consumed < items.len() {
+        let least = lower[consumed];
+        let most = upper[consumed];
+        let turn = turn_at(flipper, held, items, consumed, least, budget);
+        let next = turn.flipper;
+        let holds = turn.held;
+        if !goes_on(holds) {
+            return closing(holds, next);
+        }
+        if drawn_last(least, most) {
+            return closing(holds, next);
+        }
+        flipper = next;
+        held = holds;
+        consumed += turn_length(least);
+    }
+    closing(held, flipper)
+}
