@@ -17,12 +17,12 @@ use Rattle.coin_flipper.specs.State.{seen, Held}
 use Rattle.coin_flipper.specs.declared.CoinFlipper.{CoinFlipper}
 use Rattle.coin_flipper.proofs.Laws.{held-more}
 use Rattle.iterator.specs.Turns.{answerOfChoice, turned, ending, after}
+use Rattle.iterator.specs.Hints.{LowerHolds}
 use Rattle.iterator.specs.Choose.{turnOf, drawnLast, chooseFrom}
 use Rattle.iterator.specs.declared.choose.Choice.{Choice}
 use Rattle.iterator.specs.declared.choose.Choice.the-variants.{Nothing}
 use Rattle.iterator.specs.declared.turns.Turn.{Turn}
 use Rattle.iterator.proofs.ChoiceTurns.{holds, above-zero}
-use Rattle.iterator.proofs.HintsChecked.{Hinted}
 
 -- items that were drawn for are passed over
 pub skipped : (budget : ℕ) (lower upper items : List ℕ) (skip p : ℕ) (held : List ℕ) (s : Coins)
@@ -77,7 +77,7 @@ module _ (budget : ℕ) (lower upper items : List ℕ) (s₀ : Coins) where
         last d = rw (holds (r .held) n) (sym (turn ∙ rw (n, d)))
 
         -- the next turn comes after the items that this one was for
-        pub again : drawnLast (getD lower p 0) (getD upper p 0) ≡ false → Hinted (length items) lower upper → Held budget (r .flipper)
+        pub again : drawnLast (getD lower p 0) (getD upper p 0) ≡ false → LowerHolds (length items) lower → Held budget (r .flipper)
             → Turns (p + suc (getD lower p 0 - 1)) (r .held) (r .flipper)
         again d i g =
             record {

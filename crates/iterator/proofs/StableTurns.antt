@@ -1,4 +1,4 @@
--- The stable choice: its turns as the code takes them, and that the Rust's groups come to the same.
+-- The stable choice: the Rust's groups, and `choose` with no hints, come to one question for each item in order.
 -- Assumes nothing.
 use mathlib.Core.Path.{_≡_, refl, sym, ap, _∙_}
 use mathlib.Core.Bool.{Bool, true, false, cond}
@@ -17,45 +17,11 @@ use Rattle.coin_flipper.specs.declared.CoinFlipper.{CoinFlipper}
 use Rattle.coin_flipper.proofs.Laws.{held-more}
 use Rattle.iterator.specs.Turns.{answerOfChoice, turned, ending, after, given, taking, byCoin}
 use Rattle.iterator.specs.Stable.{stableFrom, latest, stableByHints}
+use Rattle.iterator.specs.Choose.{turnOf, chooseFrom}
 use Rattle.iterator.specs.declared.choose.Choice.{Choice}
 use Rattle.iterator.specs.declared.choose.Choice.the-variants.{Nothing}
 use Rattle.iterator.specs.declared.turns.Turn.{Turn}
 use Rattle.iterator.proofs.ChoiceTurns.{holds, above-zero}
-
--- ---- the code's loop
-
--- from place p on with what is held: the rest is the whole
-pub record Turns (budget : ℕ) (items : List ℕ) (s₀ : Coins) (p : ℕ) (held : Choice) (f : CoinFlipper) : Type 0 where
-  pub goes : stableFrom budget (drop p items) p (answerOfChoice held .values) (seen f) ≡ stableFrom budget items 0 [] s₀
-  pub some : answerOfChoice held .number ≡ 0
-  pub good : Held budget f
-  pub upto : p ≤ length items
-
--- the end of the call: the answer is that of the definition
-abbrev pub Ended : (budget : ℕ) (items : List ℕ) (s₀ : Coins) (held : Choice) (f : CoinFlipper) → Type 0
-Ended budget items s₀ held f = ending (answerOfChoice held) (seen f) ≡ stableFrom budget items 0 [] s₀
-
-pub begin : (budget : ℕ) (items : List ℕ) (f : CoinFlipper) → Held 0 f → Turns budget items (seen f) 0 Nothing f
-begin budget items f h = record { goes = refl; some = refl; good = held-more 0 budget f (omega arith) h; upto = omega arith }
-
-module _ (budget : ℕ) (items : List ℕ) (s₀ : Coins) (p : ℕ) (held : Choice) (f : CoinFlipper) (t : Turns budget items s₀ p held f) where
-  pub finish : length items ≤ p → Ended budget items s₀ held f
-  unfolding stableFrom
-  finish h = rw (holds held (t .some)) (rw (drop-of-length-le items h) at (t .goes))
-
-  module _ (h : p < length items) (r : Turn) (e : turned r ≡ byCoin budget (p + 1) (getD items p 0) (answerOfChoice held .values) (seen f)) where
-    turn : stableFrom budget items 0 [] s₀ ≡ after (turned r) (λ held s. stableFrom budget (drop (p + 1) items) (p + 1) held s)
-    unfolding stableFrom
-    turn =
-        sym (t .goes)
-        ∙ rw (drop-cons items p 0 h, add-one p) (ap (λ (x : Flipping). after x (λ held s. stableFrom budget (drop (suc p) items) (suc p) held s)) (sym (rw (add-one p) at e)))
-
-    pub again : eqb (answerOfChoice (r .held) .number) 0 ≡ true → Held budget (r .flipper) → Turns budget items s₀ (p + 1) (r .held) (r .flipper)
-    again b g = let n = eqb-true (answerOfChoice (r .held) .number) 0 b in record { goes = sym (turn ∙ rw n); some = n; good = g; upto = omega arith }
-
-    -- the budget ran out
-    pub stop : eqb (answerOfChoice (r .held) .number) 0 ≡ false → Ended budget items s₀ (r .held) (r .flipper)
-    stop b = let n = above-zero (answerOfChoice (r .held) .number) b in sym (turn ∙ rw (n .1))
 
 -- ---- the Rust's groups
 
@@ -100,3 +66,11 @@ in-order budget lower (x ∷ xs) (suc zero) p picked held s =
     alike budget (suc p) x s picked (latest picked held) _ _ (λ h t. in-order budget lower xs zero (suc p) [] h t)
 in-order budget lower (x ∷ xs) (suc (suc k)) p picked held s =
     merged budget (suc p) x s picked held _ _ (λ c t. in-order budget lower xs (suc k) (suc p) c held t)
+
+-- ---- no hints
+
+-- with no hints a coin decides at every place
+pub unhinted : (budget : ℕ) (items : List ℕ) (p : ℕ) (held : List ℕ) (s : Coins) → chooseFrom budget [] [] items 0 p held s ≡ stableFrom budget items p held s
+unfolding chooseFrom stableFrom turnOf
+unhinted budget [] p held s = refl
+unhinted budget (x ∷ xs) p held s = alike budget (suc p) x s held held _ _ (λ h t. unhinted budget xs (suc p) h t)

@@ -2,9 +2,9 @@
 -- there are at least and at most. 2 ^ 32 - 1 as an upper hint is "no upper": no row has so many items.
 use mathlib.Core.Bool.{Bool, true, _&&_}
 use mathlib.Core.List.{List, [], _∷_}
-use Prim.Native.Nat.{ℕ, _+_, _-_}
+use Prim.Native.Nat.{ℕ, _+_, _-_, _≤_}
 use lib.Dec.{leb, eqb}
-use lib.ListN.{length}
+use lib.ListN.{length, getD}
 
 -- at each place in turn, n items remaining at the first
 unfoldable pub boundsHold : (lower upper : List ℕ) (n : ℕ) → Bool
@@ -15,3 +15,7 @@ boundsHold (l ∷ ls) (u ∷ us) n = leb l n && (leb n u && boundsHold ls us (n 
 -- N + 1 entries in each list, and lower ≤ N - p ≤ upper at each place p
 unfoldable pub hintsHold : (n : ℕ) (lower upper : List ℕ) → Bool
 hintsHold n lower upper = eqb (length lower) (n + 1) && (eqb (length upper) (n + 1) && boundsHold lower upper n)
+
+-- no lower hint is above what remains; a place without an entry has the hint 0
+pub record LowerHolds (n : ℕ) (lower : List ℕ) : Type 0 where
+  pub least : (p : ℕ) → p ≤ n → getD lower p 0 ≤ n - p

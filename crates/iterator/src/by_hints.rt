@@ -1,12 +1,11 @@
 // The choice that the hints guide.
 ghost use mathlib.Core.Path.{_≡_};
-ghost use mathlib.Core.Bool.{true};
 ghost use mathlib.Core.List.{[]};
 ghost use Prim.Native.Nat.{suc, _-_, _^_, _≤_};
-ghost use lib.ListN.{length};
+ghost use lib.ListN.{length, getD};
 ghost use Rattle.coin_flipper.specs.Within.{start};
 ghost use Rattle.iterator.specs.Choose.{chooseFrom, drawnLast, exactly};
-ghost use Rattle.iterator.specs.Hints.{hintsHold};
+ghost use Rattle.iterator.specs.Hints.{LowerHolds};
 ghost use Rattle.iterator.specs.Turns.{chosen};
 use super::choose::Choice;
 use super::choose::Chosen;
@@ -63,7 +62,18 @@ fn turn_length(least: u32) -> usize
     1
 }
 
-// Turn by turn, as the lower hints allow: the definition `chooseFrom`.
+// The hint at a place, and 0 where the list has none.
+fn hint_at(hints: &[u32], place: usize) -> u32
+    ensures { λ r. ⌜ r ≡ getD (now (hints .entry)) place 0 ⌝ }
+{
+    if place < hints.len() {
+        return hints[place];
+    }
+    0
+}
+
+// Turn by turn, as the lower hints allow: the definition `chooseFrom`. With no hints it is one question for each item in order. It is one loop
+// for both choosers, so that the coins are flipped in it and not in a call.
 pub(crate) fn choose_by_hints(
     rng: Xoshiro256PlusPlus,
     items: &[u32],
@@ -71,15 +81,15 @@ pub(crate) fn choose_by_hints(
     upper: &[u32],
     budget: u64,
 ) -> Chosen
-    requires { ⌜ (length (now items) ≤ 2 ^ 32 - 2) × (hintsHold (length (now items)) (now lower) (now upper) ≡ true) ⌝ }
+    requires { ⌜ (length (now items) ≤ 2 ^ 32 - 2) × (LowerHolds (length (now items)) (now lower)) ⌝ }
     ensures { λ r. ⌜ chosen r ≡ chooseFrom budget (now (lower .entry)) (now (upper .entry)) (now (items .entry)) 0 0 [] (start rng) ⌝ }
 {
     let mut flipper = CoinFlipper::new(rng);
     let mut held = Choice::Nothing;
     let mut consumed: usize = 0;
     while consumed < items.len() {
-        let least = lower[consumed];
-        let most = upper[consumed];
+        let least = hint_at(lower, consumed);
+        let most = hint_at(upper, consumed);
         let turn = turn_at(flipper, held, items, consumed, least, budget);
         let next = turn.flipper;
         let holds = turn.held;

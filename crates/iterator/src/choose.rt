@@ -6,7 +6,6 @@ ghost use Rattle.iterator.specs.Turns.{chosen};
 use super::by_hints::choose_by_hints;
 use super::by_hints::choose_exact;
 use super::hints::hints_hold;
-use super::stable::choose_each;
 use coin_flipper::CoinFlipper;
 use refusal::Outcome;
 use refusal::Refusal;
@@ -104,5 +103,5 @@ pub fn choose_stable(
     if let Outcome::Refused(why) = checked {
         return ended(Choice::Refused(why), 0, rng);
     }
-    choose_each(rng, items, budget)
+    choose_by_hints(rng, items, &lower[..0], &upper[..0], budget)
 }

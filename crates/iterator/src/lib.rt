@@ -13,7 +13,6 @@ mod by_hints;
 pub mod choose;
 mod hints;
 mod reservoir;
-mod stable;
 mod turns;
 
 // The outcome, the count of slots filled, the words read, and the generator after them.

@@ -7,7 +7,7 @@ use lib.ListN.{length}
 use borrow.Author.Needs.{needs}
 use borrow.Author.Tests.{not-true, not-false}
 use Rattle.coin_flipper.specs.State.{seen}
-use Rattle.iterator.proofs.HintsChecked.{Hinted, hinted}
+use Rattle.iterator.specs.Hints.{LowerHolds}
 use Rattle.iterator.proofs.ChooseTurns.{Turns, begin, again, stop, last, finish}
 use Rattle.iterator.proofs.by_hints.choose_by_hints.Statement.{statement}
 use Rattle.iterator.proofs.by_hints.choose_by_hints.Tie as tie
@@ -18,10 +18,9 @@ Inv-loop items lower upper budget flipper₀ held₀ consumed₀ flipper held co
 abbrev μ-loop : tie.MeasureT-loop
 μ-loop items lower upper budget flipper₀ held₀ consumed₀ flipper held consumed = length items - consumed
 
--- the hints hold, at the loop's head
-hints : (c : tie.At-loop Inv-loop μ-loop)
-    → Hinted (length (now (c .before .before .before .before .before .args .items))) (now (c .before .before .before .before .before .args .lower)) (now (c .before .before .before .before .before .args .upper))
-hints c = let s = c .before .before .before .before .before in hinted (length (now (s .args .items))) (now (s .args .lower)) (now (s .args .upper)) (s .pre .1)
+-- at most what remains is sure to remain, at the loop's head
+sure : (c : tie.At-loop Inv-loop μ-loop) → LowerHolds (length (now (c .before .before .before .before .before .args .items))) (now (c .before .before .before .before .before .args .lower))
+sure c = c .before .before .before .before .before .pre .1
 
 new-requires : tie.Need-new-requires Inv-loop μ-loop
 new-requires c κs = search needs
@@ -29,22 +28,16 @@ new-requires c κs = search needs
 loop-holds : tie.Need-loop-holds Inv-loop μ-loop
 loop-holds c = let a = c .before .before .before .before .args in begin (a .budget) (now (a .lower)) (now (a .upper)) (now (a .items)) (seen (c .new .result)) (c .new .result) refl (c .new .ensures .1)
 
-mul-least : tie.Need-mul-least Inv-loop μ-loop
-mul-least c = omega (arith, hints (c .before) .lower)
+hint-at-requires : tie.Need-hint-at-requires Inv-loop μ-loop
+hint-at-requires c κs = search needs
 
-shared-slice-read-least : tie.Need-shared-slice-read-least Inv-loop μ-loop
-shared-slice-read-least c = omega (arith, hints (c .before .before) .lower)
-
-mul-most : tie.Need-mul-most Inv-loop μ-loop
-mul-most c = omega (arith, hints (c .before .before) .upper)
-
-shared-slice-read-most : tie.Need-shared-slice-read-most Inv-loop μ-loop
-shared-slice-read-most c = omega (arith, hints (c .before .before .before) .upper)
+hint-at-requires-2 : tie.Need-hint-at-requires-2 Inv-loop μ-loop
+hint-at-requires-2 c κs = search needs
 
 turn-at-requires : tie.Need-turn-at-requires Inv-loop μ-loop
 turn-at-requires c κs =
     let l = c .before .before .before .loop in
-    (l .inv .good, l .inv .some, omega arith, omega (arith, hints (c .before .before .before) .least (l .consumed) (omega arith)), c .before .before .before .before .before .before .before .before .pre .0)
+    (l .inv .good, l .inv .some, omega arith, omega (arith, c .before .hint-at .ensures, sure (c .before .before .before) .least (l .consumed) (omega arith)), c .before .before .before .before .before .before .before .before .pre .0)
 
 goes-on-requires : tie.Need-goes-on-requires Inv-loop μ-loop
 goes-on-requires c κs = search needs
@@ -58,8 +51,9 @@ returns c =
     let l = c .before .before .before .before .before .before .before .before .loop in
     let new = c .before .before .before .before .before .before .before .before .before .new in
     let turn = c .before .before .before .before .turn-at in
+    let made = rw (c .before .before .before .before .before .before .hint-at .ensures) at (turn .ensures .0) in
     let over = sym (c .before .before .goes-on .ensures) ∙ not-true _ (c .before .if1 .taken) in
-    rw (c .closing .ensures) (rw (new .ensures .0) at (stop (a .budget) (now (a .lower)) (now (a .upper)) (now (a .items)) (seen (new .result)) (l .consumed) (l .held) (l .flipper) (l .inv) (omega arith) (turn .result) (turn .ensures .0) over))
+    rw (c .closing .ensures) (rw (new .ensures .0) at (stop (a .budget) (now (a .lower)) (now (a .upper)) (now (a .items)) (seen (new .result)) (l .consumed) (l .held) (l .flipper) (l .inv) (c .before .before .before .before .before .before .before .loop-test .taken) (turn .result) made over))
 
 drawn-last-requires : tie.Need-drawn-last-requires Inv-loop μ-loop
 drawn-last-requires c κs = search needs
@@ -73,9 +67,12 @@ returns-2 c =
     let l = c .before .before .before .before .before .before .before .before .before .before .loop in
     let new = c .before .before .before .before .before .before .before .before .before .before .before .new in
     let turn = c .before .before .before .before .before .before .turn-at in
+    let lower-hint = c .before .before .before .before .before .before .before .before .hint-at .ensures in
+    let upper-hint = c .before .before .before .before .before .before .before .hint-at2 .ensures in
+    let made = rw lower-hint at (turn .ensures .0) in
     let on = sym (c .before .before .before .before .goes-on .ensures) ∙ not-false _ (c .before .before .before .if1 .left) in
-    let all = sym (c .before .before .drawn-last .ensures) ∙ c .before .if2 .taken in
-    rw (c .closing2 .ensures) (rw (new .ensures .0) at (last (a .budget) (now (a .lower)) (now (a .upper)) (now (a .items)) (seen (new .result)) (l .consumed) (l .held) (l .flipper) (l .inv) (c .before .before .before .before .before .before .before .before .before .loop-test .taken) (turn .result) (turn .ensures .0) on all))
+    let all = sym (rw (lower-hint, upper-hint) at (c .before .before .drawn-last .ensures)) ∙ c .before .if2 .taken in
+    rw (c .closing2 .ensures) (rw (new .ensures .0) at (last (a .budget) (now (a .lower)) (now (a .upper)) (now (a .items)) (seen (new .result)) (l .consumed) (l .held) (l .flipper) (l .inv) (c .before .before .before .before .before .before .before .before .before .loop-test .taken) (turn .result) made on all))
 
 turn-length-requires : tie.Need-turn-length-requires Inv-loop μ-loop
 turn-length-requires c κs = search needs
@@ -83,7 +80,7 @@ turn-length-requires c κs = search needs
 add-consumed : tie.Need-add-consumed Inv-loop μ-loop
 add-consumed c =
     let h = c .before .before .before .before .before .before .before .before .before .before in
-    omega (arith, c .turn-length .ensures, hints h .least (h .loop .consumed) (omega arith))
+    omega (arith, c .turn-length .ensures, c .before .before .before .before .before .before .before .before .hint-at .ensures, sure h .least (h .loop .consumed) (omega arith))
 
 loop-less : tie.Need-loop-less Inv-loop μ-loop
 loop-less c = omega (arith, c .turn-length .ensures)
@@ -94,9 +91,12 @@ loop-again c =
     let l = c .before .before .before .before .before .before .before .before .before .before .loop in
     let new = c .before .before .before .before .before .before .before .before .before .before .before .new in
     let turn = c .before .before .before .before .before .before .turn-at in
+    let lower-hint = c .before .before .before .before .before .before .before .before .hint-at .ensures in
+    let upper-hint = c .before .before .before .before .before .before .before .hint-at2 .ensures in
+    let made = rw lower-hint at (turn .ensures .0) in
     let on = sym (c .before .before .before .before .goes-on .ensures) ∙ not-false _ (c .before .before .before .if1 .left) in
-    let more = sym (c .before .before .drawn-last .ensures) ∙ c .before .if2 .left in
-    rw (c .turn-length .ensures) (again (a .budget) (now (a .lower)) (now (a .upper)) (now (a .items)) (seen (new .result)) (l .consumed) (l .held) (l .flipper) (l .inv) (c .before .before .before .before .before .before .before .before .before .loop-test .taken) (turn .result) (turn .ensures .0) on more (hints (c .before .before .before .before .before .before .before .before .before .before)) (turn .ensures .1))
+    let more = sym (rw (lower-hint, upper-hint) at (c .before .before .drawn-last .ensures)) ∙ c .before .if2 .left in
+    rw (c .turn-length .ensures, lower-hint) (again (a .budget) (now (a .lower)) (now (a .upper)) (now (a .items)) (seen (new .result)) (l .consumed) (l .held) (l .flipper) (l .inv) (c .before .before .before .before .before .before .before .before .before .loop-test .taken) (turn .result) made on more (sure (c .before .before .before .before .before .before .before .before .before .before)) (turn .ensures .1))
 
 closing-requires-3 : tie.Need-closing-requires-3 Inv-loop μ-loop
 closing-requires-3 c κs = search needs
@@ -116,10 +116,8 @@ choose-by-hints-spec =
     μ-loop
     new-requires
     loop-holds
-    mul-least
-    shared-slice-read-least
-    mul-most
-    shared-slice-read-most
+    hint-at-requires
+    hint-at-requires-2
     turn-at-requires
     goes-on-requires
     closing-requires

@@ -57,7 +57,7 @@ returns-2 c =
     rw (c .choose-exact .ensures) (sym (known (a .rng) (now (a .items)) (now (a .lower)) (now (a .upper)) (a .budget) (done (c .before .before .before .before)) (c .before .if1 .taken)))
 
 choose-by-hints-requires : tie.Need-choose-by-hints-requires
-choose-by-hints-requires c κs = let g = good (c .before .before .before) in (g .few, g .holds)
+choose-by-hints-requires c κs = (good (c .before .before .before) .few, record { least = hints (c .before .before .before) .least })
 
 returns-3 : tie.Need-returns-3
 returns-3 c =

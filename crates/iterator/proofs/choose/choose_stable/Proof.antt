@@ -1,11 +1,14 @@
 -- `choose_stable` meets its contract: a refusal, or `stable` of `ChooseCases`. Assumes nothing.
 use mathlib.Core.Path.{_≡_, sym, _∙_}
+use mathlib.Core.List.{[]}
+use native.Mathlib.Omega.{arith}
 use denote.Ref.{now}
 use borrow.Author.Needs.{needs}
 use Rattle.refusal.specs.declared.Outcome.the-variants.{Done}
 use Rattle.coin_flipper.specs.Within.{start}
 use Rattle.iterator.specs.Choose.{checkOf}
 use Rattle.iterator.proofs.ChooseCases.{passed, stable-refused, stable}
+use Rattle.iterator.proofs.StableTurns.{unhinted}
 use Rattle.iterator.proofs.choose.choose_stable.Statement.{statement}
 use Rattle.iterator.proofs.choose.choose_stable.Tie as tie
 
@@ -33,15 +36,22 @@ done : (c : tie.After-enum-told)
     → checkOf (c .before .before .before .before .before .before .args .rng) (now (c .before .before .before .before .before .before .args .items)) (now (c .before .before .before .before .before .before .args .lower)) (now (c .before .before .before .before .before .before .args .upper)) ≡ Done
 done c = sym (c .before .before .check .ensures) ∙ c .enum-told .given .1
 
-choose-each-requires : tie.Need-choose-each-requires
-choose-each-requires c κs =
-    let a = c .before .before .before .before .before .before .args in
-    passed (a .rng) (now (a .items)) (now (a .lower)) (now (a .upper)) (done c) .few
+slice-aggregate-choose-by-hints : tie.Need-slice-aggregate-choose-by-hints
+slice-aggregate-choose-by-hints c = search needs
+
+slice-aggregate-choose-by-hints-2 : tie.Need-slice-aggregate-choose-by-hints-2
+slice-aggregate-choose-by-hints-2 c = search needs
+
+choose-by-hints-requires : tie.Need-choose-by-hints-requires
+choose-by-hints-requires c κs =
+    let a = c .before .before .before .before .before .before .before .before .args in
+    (passed (a .rng) (now (a .items)) (now (a .lower)) (now (a .upper)) (done (c .before .before)) .few, record { least = λ p h. omega arith })
 
 returns-2 : tie.Need-returns-2
 returns-2 c =
-    let a = c .before .before .before .before .before .before .before .args in
-    rw (c .choose-each .ensures) (sym (stable (a .rng) (now (a .items)) (now (a .lower)) (now (a .upper)) (a .budget) (done (c .before))))
+    let a = c .before .before .before .before .before .before .before .before .before .args in
+    rw (c .choose-by-hints .ensures)
+    (unhinted (a .budget) (now (a .items)) 0 [] (start (a .rng)) ∙ sym (stable (a .rng) (now (a .items)) (now (a .lower)) (now (a .upper)) (a .budget) (done (c .before .before .before))))
 
 pub choose-stable-spec : {M : Type 1} → statement M
 choose-stable-spec =
@@ -52,5 +62,7 @@ choose-stable-spec =
     ended-requires
     returns
     enum-told
-    choose-each-requires
+    slice-aggregate-choose-by-hints
+    slice-aggregate-choose-by-hints-2
+    choose-by-hints-requires
     returns-2)
