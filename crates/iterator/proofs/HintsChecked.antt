@@ -1,6 +1,6 @@
 -- The check of the hints, place by place, and what hints that hold say.
 -- Assumes nothing.
-use mathlib.Core.Path.{_≡_, refl, sym, _∙_}
+use mathlib.Core.Path.{_≡_, refl, sym, ap, _∙_}
 use mathlib.Core.Bool.{Bool, true, false, _&&_}
 use mathlib.Core.List.{List, [], _∷_}
 use Prim.Native.Nat.{ℕ, zero, suc, _+_, _-_, _≤_, _<_}
@@ -10,7 +10,7 @@ use native.Mathlib.Omega.{arith}
 use lib.Dec.{leb, eqb}
 use lib.ListN.{length, drop, getD, drop-of-length-le}
 use lib.Seq.{drop-cons}
-use borrow.Author.Tests.{le-leb, lt-leb, leb-true, eqb-true, eq-eqb, ne-eqb}
+use borrow.Author.Tests.{leb-true, eqb-true, eq-eqb, ne-eqb}
 use Rattle.counting.proofs.Tests.{and-true}
 use Rattle.iterator.specs.Hints.{boundsHold, hintsHold}
 
@@ -20,19 +20,20 @@ and-false false = refl
 
 -- ---- the check
 
-module _ (ls us : List ℕ) (p m : ℕ) (hl : p < length ls) (hu : p < length us) where
-  at-place : boundsHold (drop p ls) (drop p us) m ≡ leb (getD ls p 0) m && (leb m (getD us p 0) && boundsHold (drop (suc p) ls) (drop (suc p) us) (m - 1))
-  unfolding boundsHold
-  at-place = rw (drop-cons ls p 0 hl, drop-cons us p 0 hu)
+and-true-right : (a : Bool) → a && true ≡ a
+and-true-right true = refl
+and-true-right false = refl
 
-  few : m < getD ls p 0 → boundsHold (drop p ls) (drop p us) m ≡ false
-  few h = at-place ∙ rw (lt-leb (getD ls p 0) m h)
+-- tests one after another
+grouped : (a b c d : Bool) → a && (b && (c && d)) ≡ ((a && b) && c) && d
+grouped true true c d = refl
+grouped true false c d = refl
+grouped false b c d = refl
 
-  many : getD us p 0 < m → boundsHold (drop p ls) (drop p us) m ≡ false
-  many h = at-place ∙ rw (lt-leb m (getD us p 0) h) (and-false (leb (getD ls p 0) m))
-
-  passes : getD ls p 0 ≤ m → m ≤ getD us p 0 → boundsHold (drop p ls) (drop p us) m ≡ boundsHold (drop (p + 1) ls) (drop (p + 1) us) (m - 1)
-  passes h k = at-place ∙ rw (le-leb (getD ls p 0) m h, le-leb m (getD us p 0) k, add-one p)
+at-place : (ls us : List ℕ) (p m : ℕ) → p < length ls → p < length us
+    → boundsHold (drop p ls) (drop p us) m ≡ leb (getD ls p 0) m && (leb m (getD us p 0) && boundsHold (drop (suc p) ls) (drop (suc p) us) (m - 1))
+unfolding boundsHold
+at-place ls us p m hl hu = rw (drop-cons ls p 0 hl, drop-cons us p 0 hu)
 
 module _ (n : ℕ) (ls us : List ℕ) where
   pub wrong-lower : (length ls ≡ n + 1 → ⊥) → hintsHold n ls us ≡ false
@@ -43,38 +44,34 @@ module _ (n : ℕ) (ls us : List ℕ) where
   unfolding hintsHold
   wrong-upper h = rw (ne-eqb (length us) (n + 1) h) (and-false (eqb (length ls) (n + 1)))
 
-  -- the places before p have passed, and the rest decides
-  pub record Passed (p : ℕ) : Type 0 where
+  -- what the tests before place p came to, and the rest, decide
+  pub record Tested (p : ℕ) (so-far : Bool) : Type 0 where
     pub lower : length ls ≡ n + 1
     pub upper : length us ≡ n + 1
     pub upto : p ≤ n + 1
-    pub rest : boundsHold (drop p ls) (drop p us) (n - p) ≡ hintsHold n ls us
+    pub rest : so-far && boundsHold (drop p ls) (drop p us) (n - p) ≡ hintsHold n ls us
 
-  pub begin : length ls ≡ n + 1 → length us ≡ n + 1 → Passed 0
+  pub begin : length ls ≡ n + 1 → length us ≡ n + 1 → Tested 0 true
   unfolding hintsHold
   begin h k = record { lower = h; upper = k; upto = omega arith; rest = rw (eq-eqb (length ls) (n + 1) h, eq-eqb (length us) (n + 1) k, sub-zero n) }
 
-  module _ (p : ℕ) (s : Passed p) where
-    pub finish : n < p → hintsHold n ls us ≡ true
+  module _ (p : ℕ) (so-far : Bool) (s : Tested p so-far) where
+    pub finish : n < p → so-far ≡ hintsHold n ls us
     unfolding boundsHold
-    finish h = sym (s .rest) ∙ rw (drop-of-length-le ls {i = p} (omega (arith, s .lower)))
+    finish h = sym (and-true-right so-far) ∙ (rw (drop-of-length-le ls {i = p} (omega (arith, s .lower))) at (s .rest))
 
-    module _ (h : p ≤ n) where
-      pub too-few : n - p < getD ls p 0 → hintsHold n ls us ≡ false
-      too-few k = sym (s .rest) ∙ few ls us p (n - p) (omega (arith, s .lower)) (omega (arith, s .upper)) k
-
-      pub too-many : getD us p 0 < n - p → hintsHold n ls us ≡ false
-      too-many k = sym (s .rest) ∙ many ls us p (n - p) (omega (arith, s .lower)) (omega (arith, s .upper)) k
-
-      pub pass : getD ls p 0 ≤ n - p → n - p ≤ getD us p 0 → Passed (p + 1)
-      pass k m =
-          let e : n - (p + 1) ≡ n - p - 1 = omega arith in
-          record {
-            lower = s .lower;
-            upper = s .upper;
-            upto = omega arith;
-            rest = rw e (sym (passes ls us p (n - p) (omega (arith, s .lower)) (omega (arith, s .upper)) k m) ∙ s .rest);
-          }
+    pub test : p ≤ n → Tested (p + 1) ((so-far && leb (getD ls p 0) (n - p)) && leb (n - p) (getD us p 0))
+    test h =
+        let e : n - (p + 1) ≡ n - p - 1 = omega arith in
+        record {
+          lower = s .lower;
+          upper = s .upper;
+          upto = omega arith;
+          rest =
+              rw (e, add-one p)
+              (sym (grouped so-far (leb (getD ls p 0) (n - p)) (leb (n - p) (getD us p 0)) (boundsHold (drop (suc p) ls) (drop (suc p) us) (n - p - 1)))
+              ∙ ap (λ (b : Bool). so-far && b) (sym (at-place ls us p (n - p) (omega (arith, s .lower)) (omega (arith, s .upper)))) ∙ s .rest);
+        }
 
 -- ---- what hints that hold say
 

@@ -1,6 +1,6 @@
 // Whether a table is whole, and the weights that it holds.
 ghost use mathlib.Core.Path.{_≡_};
-ghost use mathlib.Core.Bool.{false, _&&_};
+ghost use mathlib.Core.Bool.{false};
 ghost use Prim.Native.Nat.{_<_, _≤_};
 ghost use lib.ListN.{length, take, getD};
 ghost use Rattle.weighted_index.specs.Rising.{rises};
@@ -13,14 +13,8 @@ use super::answer::MOST_WEIGHTS;
 use super::answer::WeightedIndex;
 use refusal::Refusal;
 
-// Both hold. Neither is left out where the first one fails: a loop that goes on without a branch is done for many entries at once.
-fn both(a: bool, b: bool) -> bool
-    ensures { λ r. ⌜ r ≡ (a && b) ⌝ }
-{
-    a & b
-}
-
-// The first `n` sums never fall, and none is above `total`: where they never fall, that is asked of the last one alone.
+// The first `n` sums never fall, and none is above `total`: where they never fall, that is asked of the last one alone. A
+// loop that never ends early is done for many entries at once.
 fn is_rising(sums: &[u32], n: usize, total: u32) -> bool
     requires { ⌜ n ≤ length (now sums) ⌝ }
     ensures { λ r. ⌜ r ≡ rises 0 (take n (now (sums .entry))) total ⌝ }
@@ -29,10 +23,10 @@ fn is_rising(sums: &[u32], n: usize, total: u32) -> bool
     let mut so_far = true;
     for i in 0..n {
         let sum = sums[i];
-        so_far = both(so_far, low <= sum);
+        so_far = so_far & (low <= sum);
         low = sum;
     }
-    both(so_far, low <= total)
+    so_far & (low <= total)
 }
 
 // The record and the sums are those of no list of weights: the definition `brokenTable`. Reads all its sums.

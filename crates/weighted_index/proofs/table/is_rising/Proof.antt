@@ -36,9 +36,6 @@ mul-sum c = search needs
 shared-slice-read-sum : tie.Need-shared-slice-read-sum Inv-loop μ-loop
 shared-slice-read-sum c = search needs
 
-both-requires : tie.Need-both-requires Inv-loop μ-loop
-both-requires c κs = search needs
-
 add-i : tie.Need-add-i Inv-loop μ-loop
 add-i c = search needs
 
@@ -47,26 +44,23 @@ loop-less c = search needs
 
 loop-again : tie.Need-loop-again Inv-loop μ-loop
 loop-again c =
-    let a = c .before .before .before .before .before .args in
-    let l = c .before .before .before .loop in
+    let a = c .before .before .before .args in
+    let l = c .before .before .loop in
     let s = now (a .sums) in (
       omega arith,
-      rw (add-one (l .i), c .both .ensures)
+      rw (add-one (l .i))
           (sym (rises-turn (l .so-far) (l .low) (getD s (l .i) 0) (drop (suc (l .i)) (take (a .n) s)) (a .total))
           ∙ ap (λ (xs : List ℕ). l .so-far && rises (l .low) xs (a .total)) (sym (split s (a .n) (l .i) (omega arith) (omega arith))) ∙ l .inv .1),
     )
 
-both-requires-2 : tie.Need-both-requires-2 Inv-loop μ-loop
-both-requires-2 c κs = search needs
-
 returns : tie.Need-returns Inv-loop μ-loop
 returns c =
-    let a = c .before .before .before .before .args in
-    let l = c .before .before .loop in
+    let a = c .before .before .args in
+    let l = c .before .loop in
     let s = now (a .sums) in
     let full = length-take-le (a .n) s (omega arith) in
     let none = drop-of-length-le (take (a .n) s) {i = l .i} (omega arith) in
-    c .both2 .ensures ∙ ap (λ (b : Bool). l .so-far && b) (sym (rises-nil (l .low) (a .total)))
+    ap (λ (b : Bool). l .so-far && b) (sym (rises-nil (l .low) (a .total)))
     ∙ ap (λ (xs : List ℕ). l .so-far && rises (l .low) xs (a .total)) (sym none) ∙ l .inv .1
 
 pub is-rising-spec : {M : Type 1} → statement M
@@ -78,9 +72,7 @@ is-rising-spec =
     loop-holds
     mul-sum
     shared-slice-read-sum
-    both-requires
     add-i
     loop-less
     loop-again
-    both-requires-2
     returns)
