@@ -41,11 +41,15 @@ pub filled-some : (s : IncreasingUniform) → 0 < s .«chunk_remaining» → fil
 unfolding filledOf
 filled-some s h = rw (ne-eqb (s .«chunk_remaining») 0 (λ e. omega arith))
 
+pub filled-empty : (s : IncreasingUniform) → s .«chunk_remaining» ≡ 0 → filledOf s ≡ refilledOf s
+unfolding filledOf
+filled-empty s e = rw (eq-eqb (s .«chunk_remaining») 0 e)
+
 -- an empty chunk is refilled by a draw below the bound for n + 1
-pub filled-empty : (s : IncreasingUniform) (bound size : ℕ) (d : Drawn) → s .«chunk_remaining» ≡ 0 → ChunkBound (s .n + 1) bound size → d ≡ bounded bound (s .rng)
-    → filledOf s ≡ record { rng = d .rng; n = s .n; chunk = d .value; «chunk_remaining» = size; words = s .words + d .words }
-unfolding filledOf refilledOf refill
-filled-empty s bound size d e b drawn = rw (eq-eqb (s .«chunk_remaining») 0 e, drawn, b .factors-of, b .number, add-one)
+pub refilled-by : (s : IncreasingUniform) (bound size : ℕ) (d : Drawn) → ChunkBound (s .n + 1) bound size → d ≡ bounded bound (s .rng)
+    → refilledOf s ≡ record { rng = d .rng; n = s .n; chunk = d .value; «chunk_remaining» = size; words = s .words + d .words }
+unfolding refilledOf refill
+refilled-by s bound size d b drawn = rw (drawn, b .factors-of, b .number, add-one)
 
 pub bound-pos : (m bound size : ℕ) → 0 < m → ChunkBound m bound size → 0 < bound
 bound-pos m bound size pos b = rw (b .factors-of) (factors-pos m (suc (moreOf m)) pos)

@@ -4,7 +4,7 @@ ghost use mathlib.Core.Path.{_≡_};
 ghost use Prim.Native.Nat.{_-_, _*_, _^_, _≤_, _<_};
 ghost use Rattle.increasing_uniform.specs.Bound.{ChunkBound};
 ghost use Rattle.increasing_uniform.specs.Chunks.{digit};
-ghost use Rattle.increasing_uniform.specs.State.{startOf, filledOf, rest, handedOutOf, nextOf};
+ghost use Rattle.increasing_uniform.specs.State.{startOf, refilledOf, rest, handedOutOf, nextOf};
 use uniform_int::random_range;
 use xoshiro256plusplus::Xoshiro256PlusPlus;
 
@@ -96,14 +96,11 @@ impl IncreasingUniform {
         }
     }
 
-    // The state with a chunk that is not empty: an empty one is refilled by a bounded draw.
-    fn filled(self) -> Self
+    // An empty chunk is refilled by a bounded draw.
+    fn refilled(self) -> Self
         requires { ⌜ (self .n < 2 ^ 32 - 2) × (self .words ≤ 2 * self .n) ⌝ }
-        ensures { λ s. ⌜ s ≡ filledOf self ⌝ }
+        ensures { λ s. ⌜ s ≡ refilledOf self ⌝ }
     {
-        if self.chunk_remaining > 0 {
-            return self;
-        }
         let bound = calculate_bound_u32(self.n + 1);
         let rng = self.rng;
         let drawn = random_range(rng, bound.bound);
@@ -146,7 +143,10 @@ impl IncreasingUniform {
         requires { ⌜ (self .n < 2 ^ 32 - 2) × (self .words ≤ 2 * self .n) ⌝ }
         ensures { λ r. ⌜ r ≡ nextOf self ⌝ }
     {
-        let full = self.filled();
+        if self.chunk_remaining > 0 {
+            return self.hand_out();
+        }
+        let full = self.refilled();
         full.hand_out()
     }
 }
