@@ -1,7 +1,7 @@
 -- The search of the indices found, and the filter before it.
 -- Assumes nothing.
 use mathlib.Core.Path.{_≡_, refl, sym, ap, ap₂, _∙_, subst}
-use mathlib.Core.Bool.{Bool, true, false, not, false≢true}
+use mathlib.Core.Bool.{Bool, true, false, not, _||_, false≢true}
 use mathlib.Core.List.{List, [], _∷_, _++_}
 use mathlib.Core.Logic.{_⊎_, inl, inr}
 use Prim.Native.Nat.{ℕ, zero, suc, _+_, _-_, _*_, _/_, _%_, _^_, _≤_, _<_}
@@ -20,15 +20,12 @@ use Rattle.index.specs.Seen.{bitAt, Marking, Marked, AllMarked, Sighting
 -- ---- the search
 
 module _ (v : ℕ) where
-  pub passed : (k : ℕ) (xs : List ℕ) → k < length xs → (getD xs k 0 ≡ v → ⊥) → member v (drop k xs) ≡ member v (drop (suc k) xs)
-  passed k [] h ne = absurd (not-suc-le-zero h)
-  passed zero (x ∷ xs) h ne = rw (ne-eqb v x (λ e. ne (sym e)))
-  passed (suc k) (x ∷ xs) h ne = passed k xs (le-of-suc-le-suc h) ne
-
-  pub found-at : (k : ℕ) (xs : List ℕ) → k < length xs → getD xs k 0 ≡ v → member v (drop k xs) ≡ true
-  found-at k [] h e = absurd (not-suc-le-zero h)
-  found-at zero (x ∷ xs) h e = rw (eq-eqb v x (sym e))
-  found-at (suc k) (x ∷ xs) h e = found-at k xs (le-of-suc-le-suc h) e
+  -- the entry at k is tested, and those behind it are left; `before` is what the tests so far came to
+  pub tested : (before : Bool) (k : ℕ) (xs : List ℕ) → k < length xs → (before || member v (drop k xs)) ≡ ((before || eqb v (getD xs k 0)) || member v (drop (suc k) xs))
+  tested before k [] h = absurd (not-suc-le-zero h)
+  tested true zero (x ∷ xs) h = refl
+  tested false zero (x ∷ xs) h = refl
+  tested before (suc k) (x ∷ xs) h = tested before k xs (le-of-suc-le-suc h)
 
   pub found-nowhere : (k : ℕ) (xs : List ℕ) → length xs ≤ k → member v (drop k xs) ≡ false
   found-nowhere zero [] h = refl

@@ -8,21 +8,17 @@ ghost use lib.ListN.{length, take};
 ghost use Rattle.counting.specs.Lists.{member};
 ghost use Rattle.index.specs.Seen.{Marking, Sighting, Asked};
 
-// Whether `v` is among the first `count` indices.
+// Whether `v` is among the first `count` indices. The filter has said that it may be, mostly in error, so that all are looked at anyway: a loop
+// that never ends early is done for many entries at once.
 fn contains(indices: &[u32], count: usize, v: u32) -> bool
     requires { ⌜ count ≤ length (now indices) ⌝ }
     ensures { λ r. ⌜ r ≡ member v (take count (now (indices .entry))) ⌝ }
 {
-    let mut k = 0;
-    loop {
-        if k >= count {
-            break false;
-        }
-        if indices[k] == v {
-            break true;
-        }
-        k += 1;
+    let mut found = false;
+    for k in 0..count {
+        found = found | (v == indices[k]);
     }
+    found
 }
 
 // Sets the bit at a place, and answers whether it was set.
