@@ -5,3 +5,4 @@ pub mod Shares
 pub mod Turns
 pub mod Cases
 pub mod Parts
+pub mod View
