@@ -6,3 +6,4 @@ pub mod Turns
 pub mod Cases
 pub mod Parts
 pub mod View
+pub mod Again

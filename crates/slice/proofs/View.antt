@@ -1,11 +1,12 @@
 -- The definitions of a view, one law for each of their cases.
 -- Assumes nothing.
-use mathlib.Core.Path.{_≡_}
+use mathlib.Core.Path.{_≡_, refl, sym, ap, ap₂, _∙_}
 use mathlib.Core.Bool.{true, false}
 use mathlib.Core.List.{List, [], _∷_}
-use Prim.Native.Nat.{ℕ, _+_, _-_, _^_, _≤_, _<_, min}
+use Prim.Native.Nat.{ℕ, _+_, _-_, _*_, _^_, _≤_, _<_, min}
 use lib.ListN.{length, getD, take}
 use borrow.Author.Tests.{lt-ltb, le-ltb}
+use denote.Ref.{RefT, ptr, now}
 use Rattle.refusal.specs.Answer.{done, answerOf}
 use Rattle.refusal.specs.declared.Refusal.{Refusal}
 use Rattle.refusal.specs.declared.Refusal.the-variants.{TooLong, ZeroState}
@@ -14,8 +15,11 @@ use Rattle.refusal.specs.declared.Outcome.the-variants.{Done, Refused}
 use Rattle.refusal.proofs.Outcomes.{refused-number}
 use Rattle.xoshiro256plusplus.specs.Generator.{zeroState}
 use Rattle.xoshiro256plusplus.specs.declared.Xoshiro256PlusPlus.{Xoshiro256PlusPlus}
-use Rattle.index.specs.Sample.{refuses, sampleOf}
-use Rattle.slice.specs.View.{showAt, drawnOf, viewSampleOf}
+use Rattle.index.specs.Sample.{Sampling, ended, refuses, sampleOf}
+use Rattle.index.specs.declared.IndexSample.{IndexSample}
+use Rattle.slice.specs.Parts.{Lent}
+use Rattle.slice.specs.View.{showAt, drawnOf, viewSampleOf, Viewed}
+use Rattle.slice.proofs.Parts.{at-start}
 
 -- ---- what is shown at a place
 
@@ -57,3 +61,20 @@ all-drawn o count l e = rw e
 pub none-drawn : (o : Outcome) (why : Refusal) (count : ℕ) (l : List ℕ) → o ≡ Refused why → drawnOf (answerOf o count) l ≡ []
 unfolding drawnOf
 none-drawn o why count l e = rw (e, refused-number why)
+
+-- ---- the call that makes a view
+
+-- of what was drawn into the slice of indices, of the slice to be read only, and of its part that is shown
+module _ (items before after whole part : RefT (List ℕ)) (s : Sampling) (scratch : List ℕ) (r : IndexSample) where
+  pub viewed : ptr after ≡ ptr before → ended r (now after) scratch ≡ s → Lent after whole 0 (now after) → Lent whole part 0 (drawnOf (answerOf (r .outcome) (r .count)) (now whole))
+      → Viewed items before s scratch (record { view = record { items = items; indices = part; place = 0 }; indices = whole; sampled = r })
+  viewed same d e f =
+      let here : ptr whole ≡ ptr before = e .place ∙ sym (at-start after) ∙ same in
+      let all : now whole ≡ s .indices = e .holds ∙ ap (λ (z : Sampling). z .indices) d in
+      record {
+        sampled = ap (λ (l : List ℕ). ended r l scratch) (e .holds) ∙ d;
+        whole = record { place = here ∙ at-start before; holds = all };
+        shown = refl;
+        drawn = record { place = f .place ∙ ap (λ (p : ℕ × ℕ). (p .0, 0 * 4 + p .1)) here; holds = f .holds ∙ ap₂ drawnOf (ap (λ (z : Sampling). z .answer) d) all };
+        first = refl;
+      }
