@@ -52,6 +52,11 @@ module _ (n amount budget : ℕ) (g : Xoshiro256PlusPlus) (indices scratch : Lis
   unfolding viewSampleOf
   sampled e h = rw (e, le-ltb (2 ^ 32 - 2) n h)
 
+  -- so what a sample of the clipped amount leaves is what the view's draw does
+  pub as-sampled : (most : ℕ) (s : Sampling) → zeroState g ≡ false → n ≤ 2 ^ 32 - 2 → most ≡ min amount n → s ≡ sampleOf n most budget g indices scratch
+      → s ≡ viewSampleOf n amount budget g indices scratch
+  as-sampled most s e h m d = d ∙ ap (λ (k : ℕ). sampleOf n k budget g indices scratch) m ∙ sym (sampled e h)
+
 -- ---- the indices shown
 
 pub all-drawn : (o : Outcome) (count : ℕ) (l : List ℕ) → o ≡ Done → drawnOf (answerOf o count) l ≡ take count l

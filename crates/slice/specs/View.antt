@@ -1,13 +1,14 @@
 -- A view of drawn items: what it shows, and the draw that makes it.
 use mathlib.Core.Path.{_≡_}
-use mathlib.Core.Bool.{cond, _&&_}
+use mathlib.Core.Bool.{false, cond, _&&_}
 use mathlib.Core.List.{List, [], _∷_}
 use Prim.Native.Nat.{ℕ, _+_, _-_, _^_, min}
 use lib.Dec.{eqb, ltb}
 use lib.ListN.{length, getD, take}
 use denote.Ref.{RefT, now}
 use Rattle.refusal.specs.Answer.{Answer, done}
-use Rattle.refusal.specs.declared.Refusal.the-variants.{TooLong, ZeroState}
+use Rattle.refusal.specs.Number.{number}
+use Rattle.refusal.specs.declared.Refusal.the-variants.{AmountExceedsLength, TooLong, ZeroState}
 use Rattle.xoshiro256plusplus.specs.Generator.{zeroState}
 use Rattle.xoshiro256plusplus.specs.declared.Xoshiro256PlusPlus.{Xoshiro256PlusPlus}
 use Rattle.index.specs.Sample.{Sampling, ended, refuses, sampleOf}
@@ -54,13 +55,17 @@ remains v = length (now (v .indices)) - v .place
 
 -- ---- the draw that makes it
 
--- The sample that a view of n items draws: never of more than there are, so that 1 is never given. Items are a lent list, whose most is one
--- less than a sample's.
+-- The sample that a view of n items draws: never of more than there are. Items are a lent list, whose most is one less than a sample's.
 unfoldable pub viewSampleOf : (n amount budget : ℕ) → Xoshiro256PlusPlus → List ℕ → List ℕ → Sampling
 viewSampleOf n amount budget g indices scratch =
     cond (zeroState g) (refuses ZeroState g indices scratch)
     (cond (ltb (2 ^ 32 - 2) n) (refuses TooLong g indices scratch)
     (sampleOf n (min amount n) budget g indices scratch))
+
+-- so a view is never declined for an amount above the length
+pub record NeverOverdrawn : Type 0 where
+  pub never : (n amount budget : ℕ) (g : Xoshiro256PlusPlus) (indices scratch : List ℕ)
+      → eqb (viewSampleOf n amount budget g indices scratch .answer .number) (number AmountExceedsLength) ≡ false
 
 -- the indices that a view shows: as many as were drawn, and none where the draw was declined
 unfoldable pub drawnOf : Answer → List ℕ → List ℕ

@@ -4,7 +4,7 @@ use native.Mathlib.Omega.{arith}
 use lib.ListN.{length}
 use denote.Ref.{now}
 use Rattle.index.specs.Sample.{refuses}
-use Rattle.slice.proofs.View.{zero-state, too-long, sampled}
+use Rattle.slice.proofs.View.{zero-state, too-long, as-sampled}
 use borrow.Author.Needs.{needs}
 use Rattle.slice.proofs.indexed_samples.sample_indices.Statement.{statement}
 use Rattle.slice.proofs.indexed_samples.sample_indices.Tie as tie
@@ -47,10 +47,9 @@ same-length-2 c = search needs
 returns-3 : tie.Need-returns-3
 returns-3 c =
     let a = c .before .before .before .before .before .before .before .before .before .before .before .before .before .before .args in
-    let clip = c .before .before .before .before .before .before .before .clipped .ensures in
     let alive = sym (c .before .before .before .before .before .before .before .before .before .before .is-zero .ensures) ∙ c .before .before .before .before .before .before .before .before .before .if1 .left in
-    rw clip at (c .before .before .before .before .sample .ensures)
-    ∙ sym (sampled (length (now (a .items))) (a .amount) (a .budget) (a .rng) (now (a .indices)) (now (a .scratch)) alive (omega arith))
+    as-sampled (length (now (a .items))) (a .amount) (a .budget) (a .rng) (now (a .indices)) (now (a .scratch)) _ _ alive (omega arith)
+    (c .before .before .before .before .before .before .before .clipped .ensures) (c .before .before .before .before .sample .ensures)
 
 pub sample-indices-spec : {M : Type 1} → statement M
 sample-indices-spec =
