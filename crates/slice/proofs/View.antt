@@ -78,8 +78,8 @@ module _ (items before after whole part : RefT (List ℕ)) (s : Sampling) (scrat
       let all : now whole ≡ s .indices = e .holds ∙ ap (λ (z : Sampling). z .indices) d in
       record {
         sampled = ap (λ (l : List ℕ). ended r l scratch) (e .holds) ∙ d;
-        whole = record { place = here ∙ at-start before; holds = all };
-        shown = refl;
-        drawn = record { place = f .place ∙ ap (λ (p : ℕ × ℕ). (p .0, 0 * 4 + p .1)) here; holds = f .holds ∙ ap₂ drawnOf (ap (λ (z : Sampling). z .answer) d) all };
-        first = refl;
+        slice = record { place = here ∙ at-start before; holds = all };
+        items = refl;
+        indices = record { place = f .place ∙ ap (λ (p : ℕ × ℕ). (p .0, 0 * 4 + p .1)) here; holds = f .holds ∙ ap₂ drawnOf (ap (λ (z : Sampling). z .answer) d) all };
+        place = refl;
       }

@@ -71,11 +71,12 @@ pub record NeverOverdrawn : Type 0 where
 unfoldable pub drawnOf : Answer → List ℕ → List ℕ
 drawnOf a indices = cond (eqb (a .number) 0) (take (getD (a .values) 0 0) indices) []
 
--- What the call that makes a view leaves behind, where its draw left s. The slice of indices is lent on to the view, and is in the answer too.
-pub record Viewed (items indices : RefT (List ℕ)) (s : Sampling) (scratch : List ℕ) (r : ViewSample) : Type 0 where
+-- What the call that makes a view leaves behind, of the items `from` and the indices lent as `to`, where its draw left s. Since the view holds
+-- the indices, the answer has their slice whole.
+pub record Viewed (from to : RefT (List ℕ)) (s : Sampling) (scratch : List ℕ) (r : ViewSample) : Type 0 where
   pub sampled : ended (r .sampled) (now (r .indices)) scratch ≡ s
-  pub whole : Lent indices (r .indices) 0 (s .indices)
-  -- the view: the caller's items, the drawn indices, and the first place
-  pub shown : r .view .items ≡ items
-  pub drawn : Lent indices (r .view .indices) 0 (drawnOf (s .answer) (s .indices))
-  pub first : r .view .place ≡ 0
+  pub slice : Lent to (r .indices) 0 (s .indices)
+  -- the view's three parts
+  pub items : r .view .items ≡ from
+  pub indices : Lent to (r .view .indices) 0 (drawnOf (s .answer) (s .indices))
+  pub place : r .view .place ≡ 0

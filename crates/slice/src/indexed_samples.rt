@@ -73,7 +73,7 @@ impl<'a> IndexedSamples<'a> {
         shown.item
     }
 
-    // How many indices are still to be shown.
+    // How many indices are still to be shown, as `ExactSizeIterator::len` answers.
     pub fn len(self) -> usize
         ensures { λ n. ⌜ n ≡ remains (self .entry) ⌝ }
     {
@@ -81,9 +81,10 @@ impl<'a> IndexedSamples<'a> {
     }
 }
 
-// Draws what a view of so many of the items shows: `index::sample` of distinct indices of the items, whose refusals, budget, slices and cost
-// are these. The amount is clipped to the number of items, so that it is never above it. More than 2^32 - 2 items are declined (10). The
-// definition is `viewSampleOf`.
+// The draw behind a view: distinct indices of the items by `index::sample`, whose budget, slices, cost and refusals are these. The amount is
+// clipped to the number of items, so that 1 is never given (`NeverOverdrawn`). More than 2^32 - 2 items are declined (10): they are a lent
+// list, which may be one shorter than the length that `index::sample` takes. The definition is `viewSampleOf`. A caller that needs the
+// indices afterwards draws with this call and shows with `show_at`.
 pub fn sample_indices(
     rng: Xoshiro256PlusPlus,
     items: &[u32],
@@ -134,9 +135,8 @@ pub struct ViewSample<'a> {
     pub sampled: IndexSample,
 }
 
-// Draws indices by `sample_indices` and shows the items at them. On any refusal the view shows nothing. The indices are lent for as long as
-// the view is used, so the answer has that slice whole: with refusal 13 it holds what was found. `Viewed` says all of it; a caller that needs
-// the slice afterwards draws by `sample_indices` and shows by `show_at`.
+// Draws indices by `sample_indices` and shows the items at them; on any refusal the view shows nothing. The indices are lent for as long as the
+// view is used, so the answer has their slice whole: with refusal 13 it holds what was found. `Viewed` says all of it.
 pub fn sample<'a>(
     rng: Xoshiro256PlusPlus,
     items: &'a [u32],

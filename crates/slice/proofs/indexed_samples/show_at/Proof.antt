@@ -1,6 +1,7 @@
 -- `show_at` meets its contract: each answer is its case of the definition. Assumes nothing.
 use mathlib.Core.Path.{sym}
 use native.Mathlib.Omega.{arith}
+use denote.Ref.{now}
 use Rattle.slice.proofs.View.{some, out-of-range, past}
 use borrow.Author.Needs.{needs}
 use Rattle.slice.proofs.indexed_samples.show_at.Statement.{statement}
@@ -25,7 +26,9 @@ add-t15 : tie.Need-add-t15
 add-t15 c = search needs
 
 returns : tie.Need-returns
-returns c = sym (some _ _ _ (omega arith) (omega arith))
+returns c =
+    let a = c .before .before .before .before .args in
+    sym (some (now (a .items)) (now (a .indices)) (a .place) (omega arith) (omega arith))
 
 returns-2 : tie.Need-returns-2
 returns-2 c = sym (out-of-range _ _ _ (omega arith) (omega arith))
