@@ -33,7 +33,7 @@ pub struct IndexedSamples<'a> {
 }
 
 // The item at the index that stands at a place, and one place on; past the last index, or at an index not below the items' count, none and the
-// same place. For callers that hold the slices themselves: the definition is `showAt`.
+// same place. For callers that hold the slices themselves, at one lifetime as the view has them. The definition is `showAt`.
 pub fn show_at<'a>(items: &'a [u32], indices: &'a [u32], place: usize) -> Shown
     ensures { λ r. ⌜ shows r ≡ showAt (now (items .entry)) (now (indices .entry)) place ⌝ }
 {
@@ -52,7 +52,7 @@ pub fn show_at<'a>(items: &'a [u32], indices: &'a [u32], place: usize) -> Shown
     }
 }
 
-// How many indices stand from a place on.
+// How many indices stand from a place on, none past the last.
 pub fn remaining(indices: &[u32], place: usize) -> usize
     ensures { λ n. ⌜ n ≡ length (now (indices .entry)) - place ⌝ }
 {
