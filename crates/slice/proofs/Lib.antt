@@ -6,5 +6,5 @@ pub mod Turns
 pub mod Cases
 pub mod Parts
 pub mod View
-pub mod NeverOverdrawn
+pub mod ViewDraws
 pub mod Again

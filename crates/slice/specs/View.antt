@@ -2,7 +2,7 @@
 use mathlib.Core.Path.{_≡_}
 use mathlib.Core.Bool.{false, cond, _&&_}
 use mathlib.Core.List.{List, [], _∷_}
-use Prim.Native.Nat.{ℕ, _+_, _-_, _^_, min}
+use Prim.Native.Nat.{ℕ, _+_, _-_, _^_, _<_, min}
 use lib.Dec.{eqb, ltb}
 use lib.ListN.{length, getD, take}
 use denote.Ref.{RefT, now}
@@ -12,6 +12,7 @@ use Rattle.refusal.specs.declared.Refusal.the-variants.{AmountExceedsLength, To
 use Rattle.xoshiro256plusplus.specs.Generator.{zeroState}
 use Rattle.xoshiro256plusplus.specs.declared.Xoshiro256PlusPlus.{Xoshiro256PlusPlus}
 use Rattle.index.specs.Sample.{Sampling, ended, refuses, sampleOf}
+use Rattle.index.specs.Shares.{SampleOf}
 use Rattle.slice.specs.Parts.{Lent}
 use Rattle.slice.specs.declared.indexed_samples.Item.{Item}
 use Rattle.slice.specs.declared.indexed_samples.Item.the-variants.{Some, None}
@@ -62,11 +63,6 @@ viewSampleOf n amount budget g indices scratch =
     (cond (ltb (2 ^ 32 - 2) n) (refuses TooLong g indices scratch)
     (sampleOf n (min amount n) budget g indices scratch))
 
--- so a view is never declined for an amount above the length
-pub record NeverOverdrawn : Type 0 where
-  pub never : (n amount budget : ℕ) (g : Xoshiro256PlusPlus) (indices scratch : List ℕ)
-      → eqb (viewSampleOf n amount budget g indices scratch .answer .number) (number AmountExceedsLength) ≡ false
-
 -- the indices that a view shows: as many as were drawn, and none where the draw was declined
 unfoldable pub drawnOf : Answer → List ℕ → List ℕ
 drawnOf a indices = cond (eqb (a .number) 0) (take (getD (a .values) 0 0) indices) []
@@ -80,3 +76,15 @@ pub record Viewed (from to : RefT (List ℕ)) (s : Sampling) (scratch : List ℕ
   pub items : r .view .items ≡ from
   pub indices : Lent to (r .view .indices) 0 (drawnOf (s .answer) (s .indices))
   pub place : r .view .place ≡ 0
+
+-- what a view can be relied on for
+pub record ViewDraws : Type 0 where
+  -- it is never declined for an amount above the length
+  pub never-overdrawn : (n amount budget : ℕ) (g : Xoshiro256PlusPlus) (indices scratch : List ℕ)
+      → eqb (viewSampleOf n amount budget g indices scratch .answer .number) (number AmountExceedsLength) ≡ false
+  -- where it is not declined, it holds as many indices as the clipped amount, distinct and below the number of items
+  pub draws : (n amount budget : ℕ) (g : Xoshiro256PlusPlus) (indices scratch : List ℕ)
+      → (let s : Sampling = viewSampleOf n amount budget g indices scratch in s .answer .number ≡ 0 → SampleOf n (min amount n) (drawnOf (s .answer) (s .indices)))
+  -- and of such indices it shows an item at each place
+  pub shows-each : (items indices : List ℕ) (amount k : ℕ) → SampleOf (length items) amount indices → k < amount
+      → showAt items indices k ≡ record { answer = done (getD items (getD indices k 0) 0 ∷ []); place = k + 1 }

@@ -82,7 +82,7 @@ impl<'a> IndexedSamples<'a> {
 }
 
 // The draw behind a view: distinct indices of the items by `index::sample`, whose budget, slices, cost and refusals are these. The amount is
-// clipped to the number of items, so that 1 is never given (`NeverOverdrawn`). More than 2^32 - 2 items are declined (10): they are a lent
+// clipped to the number of items, so that 1 is never given (`ViewDraws`). More than 2^32 - 2 items are declined (10): they are a lent
 // list, which may be one shorter than the length that `index::sample` takes. The definition is `viewSampleOf`. A caller that needs the
 // indices afterwards draws with this call and shows with `show_at`.
 pub fn sample_indices(
