@@ -26,7 +26,7 @@ pub struct IndexSample {
 }
 
 // A refusal that has read nothing and written nothing.
-fn refused(why: Refusal, rng: Xoshiro256PlusPlus) -> IndexSample
+pub fn refused(why: Refusal, rng: Xoshiro256PlusPlus) -> IndexSample
     ensures { λ r. ⌜ r ≡ record { outcome = Outcome.Refused why; count = 0; words = 0; rng = rng } ⌝ }
 {
     IndexSample {

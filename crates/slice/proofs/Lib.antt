@@ -5,3 +5,6 @@ pub mod Shares
 pub mod Turns
 pub mod Cases
 pub mod Parts
+pub mod View
+pub mod ViewDraws
+pub mod Again

@@ -2,3 +2,4 @@ pub mod Shuffle
 pub mod Shuffled
 pub mod Shares
 pub mod Parts
+pub mod View

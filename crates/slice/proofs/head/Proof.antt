@@ -1,11 +1,8 @@
 -- `head` meets its contract: the part before a clipped place is the part before that place. Assumes nothing.
-use mathlib.Core.Path.{sym, ap}
-use Prim.Native.Nat.{ℕ}
-use native.Mathlib.Nat.{zero-add}
 use native.Mathlib.Omega.{arith}
 use lib.ListN.{length-take}
-use denote.Ref.{ptr, now}
-use Rattle.slice.proofs.Parts.{take-clipped}
+use denote.Ref.{now}
+use Rattle.slice.proofs.Parts.{take-clipped, at-start}
 use borrow.Author.Needs.{needs}
 use Rattle.slice.proofs.head.Statement.{statement}
 use Rattle.slice.proofs.head.Tie as tie
@@ -20,7 +17,7 @@ returns : tie.Need-returns
 returns c =
     let items = c .before .before .before .args .items in
     record {
-      place = ap (λ (o : ℕ). (ptr items .0, o)) (sym (zero-add (ptr items .1)));
+      place = at-start items;
       holds = rw (c .before .clipped .ensures) (take-clipped (c .before .before .before .args .n) (now items));
     }
 
