@@ -27,6 +27,17 @@ void gapyndura_from_seed(const uint8_t seed[32], uint64_t state[4]);
 /* Writes to state the generator of a seed in one number: the first four outputs of SplitMix64 from it. Never declines. */
 void gapyndura_seed_from_u64(uint64_t seed, uint64_t state[4]);
 
+/* Draws one word of 32 bits from the generator, which is advanced by it.
+ *
+ * Answers 0, or
+ *   12  all four words of state are 0: that is no generator
+ *
+ * On every answer:
+ *   state    is the generator after the word: unchanged on 12;
+ *   out[0]   is the words read: 1 on 0, and 0 on 12;
+ *   out[1]   is the word on 0, and 0 on 12. */
+uint32_t gapyndura_next_u32(uint64_t state[4], uint64_t out[2]);
+
 /* Draws amount distinct indices below length, in random order, to the front of indices.
  *
  * rand's own rule chooses among three methods by length and amount. Amounts below 12: Floyd's. 12 to 162: the one in place at

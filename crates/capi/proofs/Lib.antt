@@ -2,3 +2,4 @@ pub mod Packed
 pub mod PackedWeights
 pub mod NoRecord
 pub mod PackedChoices
+pub mod PackedWord

@@ -2,6 +2,7 @@
 // of the same meaning and packs. An array of fixed length passes as a pointer, a slice as a pointer and then a length.
 mod choosing;
 mod filling;
+mod lending;
 mod sampling;
 mod seeding;
 mod shuffling;
