@@ -2,10 +2,12 @@
 
 use gapyndura::Xoshiro256PlusPlus;
 use gapyndura::index::sample;
-use gapyndura::iterator::sample_fill;
+use gapyndura::iterator::{choose, sample_fill};
+use gapyndura::slice::shuffle;
 use gapyndura::weighted_index::WeightedIndex;
-use rand::RngExt;
-use rand::seq::{IndexedMutRandom, IndexedRandom, IteratorRandom};
+use rand::rngs::SmallRng;
+use rand::seq::{IndexedMutRandom, IndexedRandom, IteratorRandom, SliceRandom};
+use rand::{RngExt, SeedableRng};
 use reference::{State, counted};
 
 /// No call here comes near it.
@@ -53,6 +55,25 @@ fn a_slice_s_choose_is_a_sample_of_one() {
             counted(from, |rng| items.choose_mut(rng).map(|item| *item)),
             port
         );
+    }
+}
+
+#[test]
+fn choose_with_exact_hints_gives_a_slice_s_choice_and_no_word_is_read_for_one_item() {
+    for length in lengths().skip(1) {
+        let from = state(length);
+        let items: Vec<u32> = (0..length).collect();
+        let exact: Vec<u32> = (0..=length).rev().collect();
+        let port = ours(from, |rng| {
+            let chosen = choose(rng, &items, &exact, &exact, BUDGET).unwrap();
+            (chosen.item, chosen.words)
+        });
+        let rand = counted(from, |rng| items.choose(rng).copied());
+        if length == 1 {
+            assert_eq!((port, rand.1), ((Some(0), 0, from), 1));
+        } else {
+            assert_eq!(rand, port);
+        }
     }
 }
 
@@ -172,5 +193,22 @@ fn weights_of_8_and_16_bits_are_picked_as_those_of_32() {
         let middle = rand::distr::weighted::WeightedIndex::new(weights.map(u16::from)).unwrap();
         assert_eq!(counted(from, |rng| vec![rng.sample(&small) as u32]), one);
         assert_eq!(counted(from, |rng| vec![rng.sample(&middle) as u32]), one);
+    }
+}
+
+#[test]
+fn the_small_generator_is_this_one() {
+    for seed in 0..40 {
+        let (mut items, mut same): (Vec<u32>, Vec<u32>) = ((0..100).collect(), (0..100).collect());
+        items.shuffle(&mut SmallRng::seed_from_u64(seed));
+        shuffle(&mut Xoshiro256PlusPlus::seed_from_u64(seed), &mut same).unwrap();
+        assert_eq!(items, same);
+        items.shuffle(&mut SmallRng::from_seed([seed as u8; 32]));
+        shuffle(
+            &mut Xoshiro256PlusPlus::from_seed([seed as u8; 32]),
+            &mut same,
+        )
+        .unwrap();
+        assert_eq!(items, same);
     }
 }
