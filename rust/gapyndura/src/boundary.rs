@@ -1,6 +1,6 @@
 //! The functions of `include/gapyndura.h`, declared for Rust.
 //!
-//! Nothing checks these lines against the header or against the Rattle functions: keep the three alike.
+//! No build holds these lines to the header or to the Rattle functions: `tools/check-boundary` does.
 
 // SAFETY: a function that is marked safe here takes numbers and references to arrays of the lengths that the header
 // names. Such references are what the header asks of a caller: not null, aligned, good for the length, and what is

@@ -39,6 +39,13 @@ impl fmt::Display for SampleError {
 
 impl Error for SampleError {}
 
+impl From<SampleError> for Refusal {
+    /// The cause alone.
+    fn from(error: SampleError) -> Self {
+        error.refusal
+    }
+}
+
 /// Draws `amount` distinct indices below `length`, in random order, to the front of `indices`.
 ///
 /// The indices, and the words read for them, are those of rand's `seq::index::sample`, which gives no sample more or less

@@ -114,6 +114,13 @@ impl fmt::Display for ChooseError {
 
 impl Error for ChooseError {}
 
+impl From<ChooseError> for Refusal {
+    /// The cause alone.
+    fn from(error: ChooseError) -> Self {
+        error.refusal
+    }
+}
+
 /// Chooses one of the items, each as likely as another.
 ///
 /// The item, and the words read for it, are those of rand's `IteratorRandom::choose` on an iterator with these hints. The

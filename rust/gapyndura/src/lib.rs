@@ -1,7 +1,8 @@
 //! Samples, shuffles, reservoirs, choices and weights of crate rand 0.10.3, proved equal to their definitions.
 //!
 //! The calls are proved in Rattle and linked as a static library for x86-64 Linux. This crate holds the safe side of that
-//! boundary and nothing else: each function lends its arguments to one function of `include/gapyndura.h`.
+//! boundary and nothing else: each function lends its arguments to one function of `include/gapyndura.h`. It uses no
+//! allocator and no `std`: every slice is lent by the caller.
 //!
 //! ```
 //! use gapyndura::Xoshiro256PlusPlus;
@@ -13,6 +14,50 @@
 //! assert!(indices.iter().all(|&index| index < 10));
 //! # Ok::<(), gapyndura::index::SampleError>(())
 //! ```
+//!
+//! # The calls
+//!
+//! Each draws what rand draws from the same state, word for word.
+//!
+//! | Call | In rand | Reads at most |
+//! |---|---|---|
+//! | [`Xoshiro256PlusPlus::from_seed`], [`seed_from_u64`](Xoshiro256PlusPlus::seed_from_u64) | `SeedableRng` for `Xoshiro256PlusPlus`, and for `SmallRng` on a 64-bit target | no word |
+//! | [`index::sample`] | `seq::index::sample` | `budget` words by rejection, else two for each index |
+//! | [`slice::partial_shuffle`] | `SliceRandom::partial_shuffle` | two words for each item shuffled |
+//! | [`slice::shuffle`] | `SliceRandom::shuffle` | two words for each item |
+//! | [`iterator::sample_fill`] | `IteratorRandom::sample_fill` | two words for each item past the buffer |
+//! | [`iterator::choose`] | `IteratorRandom::choose` | `budget` words |
+//! | [`iterator::choose_stable`] | `IteratorRandom::choose_stable` | `budget` words |
+//! | [`WeightedIndex::new`](weighted_index::WeightedIndex::new) | `WeightedIndex::new` | no word |
+//! | [`WeightedIndex::update_weights`](weighted_index::WeightedIndex::update_weights) | `WeightedIndex::update_weights` | no word |
+//! | [`WeightedIndex::weight`](weighted_index::WeightedIndex::weight) | `WeightedIndex::weight` | no word |
+//! | [`WeightedIndex::sample`](weighted_index::WeightedIndex::sample) | `Distribution::sample` for `WeightedIndex` | `budget` words |
+//!
+//! # What is declined
+//!
+//! A call is declined only for a cause of [`Refusal`], and draws otherwise. Nothing is read and nothing changed by a call that
+//! is declined, but with [`BudgetExhausted`](Refusal::BudgetExhausted): then the budget is read. So only the calls that take
+//! a budget have an error with more than the cause, [`SampleError`](index::SampleError),
+//! [`ChooseError`](iterator::ChooseError) and [`PickError`](weighted_index::PickError); each becomes a [`Refusal`] by `?`.
+//!
+//! # What of rand was left out
+//!
+//! | In rand | Call instead |
+//! |---|---|
+//! | `choose` and `choose_mut` of a slice | [`index::sample`] with amount 1 |
+//! | `sample` of a slice | [`index::sample`], then the items at the indices |
+//! | `sample_array` | [`index::sample`]; the same for up to 11 indices |
+//! | `choose_iter` of a slice (with replacement) | picks from a table of weights that are all 1 |
+//! | `choose_weighted` and its like | [`weighted_index`], the index that is picked being the item's place |
+//! | `sample` of an iterator | [`iterator::sample_fill`] |
+//! | shuffles and choices of items that are no `u32` | the call on places 0, 1 and so on, then the items at them |
+//! | `WeightedIndex::weights`, `total_weight` | [`weight`](weighted_index::WeightedIndex::weight) at each place; the field `total_weight` |
+//! | weights of 8 or 16 bits | the same as `u32` |
+//! | weights of 64 or 128 bits, signed or float ones; `sample_weighted` | nothing |
+//! | lengths above 2^32 - 1 | nothing |
+//! | other generators, `Rng` as a trait, words and ranges by themselves | nothing |
+//!
+//! `docs/DIFFERENCES.md` in the repository has them all, and where the Rust and this crate differ by intent.
 
 #![no_std]
 #![warn(missing_docs)]

@@ -3,7 +3,24 @@
 use core::error::Error;
 use core::fmt;
 
-/// Why a call is declined.
+/// Why a call is declined: the table of document 01, by number. [`Display`](fmt::Display) says it in words.
+///
+/// A call that has no budget answers a refusal alone: it has then read no word and changed nothing. The error of one that has a
+/// budget also says how many words were read, and becomes a refusal where that is all that is wanted:
+///
+/// ```
+/// use gapyndura::{Refusal, Xoshiro256PlusPlus};
+/// use gapyndura::index::sample;
+/// use gapyndura::slice::shuffle;
+///
+/// fn draw(rng: &mut Xoshiro256PlusPlus, closings: &mut [u32; 3]) -> Result<(), Refusal> {
+///     sample(rng, 2, 3, 100, closings, &mut [])?;
+///     shuffle(rng, closings)?;
+///     Ok(())
+/// }
+/// let mut rng = Xoshiro256PlusPlus::seed_from_u64(1);
+/// assert_eq!(draw(&mut rng, &mut [0; 3]), Err(Refusal::AmountExceedsLength));
+/// ```
 ///
 /// ```
 /// use gapyndura::Refusal;
@@ -13,31 +30,31 @@ use core::fmt;
 /// ```
 #[derive(Clone, Copy, Debug, PartialEq, Eq, Hash)]
 pub enum Refusal {
-    /// The amount is above the length.
+    /// The amount is above the length (document 01: overdrawn).
     AmountExceedsLength = 1,
-    /// A new table has no weights.
+    /// A new table has no weights (no list).
     NoWeights,
-    /// The weights sum above 2^32 - 1.
+    /// The weights sum above 2^32 - 1 (flooded).
     Overflow,
-    /// Every weight is, or would be, 0.
+    /// Every weight is, or would be, 0 (dry).
     InsufficientNonZero,
-    /// A change's place is not above the one before.
+    /// A change's place is not above the one before (out of turn).
     PlacesNotIncreasing,
-    /// A change's place is not below the count of weights.
+    /// A change's place is not below the count of weights (no such row).
     PlaceOutOfRange,
-    /// The cumulative weights are those of no list of weights, or too few are lent.
+    /// The cumulative weights are those of no list of weights, or too few are lent (broken table).
     InvalidTable,
-    /// A slice to be written has too few entries, or two lists that go together differ in length.
+    /// A slice to be written has too few entries, or two lists that go together differ in length (short tray).
     SliceTooShort,
-    /// The method in place is due and the scratch slice is shorter than the length.
+    /// The method in place is due and the scratch slice is shorter than the length (short bench).
     ScratchTooShort,
-    /// A length is above 2^32 - 1, or a list or a table's count is above 2^32 - 2.
+    /// A length is above 2^32 - 1, or a list or a table's count is above 2^32 - 2 (too long).
     TooLong,
-    /// The bounds on what remains do not hold of the items.
+    /// The bounds on what remains do not hold of the items (false hints).
     InvalidHints,
-    /// All four words of the generator's state are 0.
+    /// All four words of the generator's state are 0 (dead generator).
     ZeroState,
-    /// A word is needed, and as many as the budget allows have been read.
+    /// A word is needed, and as many as the budget allows have been read (spent).
     BudgetExhausted,
 }
 

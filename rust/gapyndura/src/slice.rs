@@ -1,4 +1,6 @@
 //! Shuffles of a slice, as in rand's module `slice`.
+//!
+//! A shuffle that is declined has read no word and changed nothing, so a [`Refusal`] says all of it.
 
 use crate::boundary::{gapyndura_partial_shuffle, gapyndura_shuffle};
 use crate::{Refusal, Xoshiro256PlusPlus};

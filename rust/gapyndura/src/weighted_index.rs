@@ -71,6 +71,13 @@ impl fmt::Display for PickError {
 
 impl Error for PickError {}
 
+impl From<PickError> for Refusal {
+    /// The cause alone.
+    fn from(error: PickError) -> Self {
+        error.refusal
+    }
+}
+
 impl WeightedIndex {
     /// Makes the table of these weights: answers its record, and writes its sums to the front of `cumulative_weights`.
     ///
