@@ -8,6 +8,7 @@
 unsafe extern "C" {
     pub safe fn gapyndura_from_seed(seed: &[u8; 32], state: &mut [u64; 4]);
     pub safe fn gapyndura_seed_from_u64(seed: u64, state: &mut [u64; 4]);
+    pub safe fn gapyndura_next_u32(state: &mut [u64; 4], out: &mut [u64; 2]) -> u32;
     pub fn gapyndura_sample(
         state: &mut [u64; 4],
         length: u64,

@@ -1,8 +1,11 @@
-//! Shuffles of a slice, as in rand's module `slice`.
+//! Shuffles of a slice, and a view of items drawn from one, as in rand's module `slice`.
 //!
 //! A shuffle that is declined has read no word and changed nothing, so a [`Refusal`] says all of it.
 
+use core::iter::FusedIterator;
+
 use crate::boundary::{gapyndura_partial_shuffle, gapyndura_shuffle};
+use crate::index::{self, SampleError};
 use crate::{Refusal, Xoshiro256PlusPlus};
 
 /// A slice that was shuffled, in its two parts, and what that took.
@@ -119,4 +122,209 @@ pub fn shuffle<'a>(
         unsafe { gapyndura_shuffle(rng.state_mut(), items.as_mut_ptr(), items.len(), &mut out) };
     Refusal::check(number)?;
     Ok(Shuffled::new(items, out))
+}
+
+/// The most items that a view is drawn from.
+const MOST_ITEMS: u64 = (1 << 32) - 2;
+
+/// A view of drawn items: shows those at the indices, one after another.
+///
+/// [`sample`] draws the indices. What is shown are the items themselves, and they stay lent when the view and the indices are
+/// no longer. Each step is the item at the next index, and one place on; past the last index it is none, and the view stays.
+///
+/// The three parts can be kept, changed or made up freely. At an index that is not below the items' count the view shows none
+/// and stays too, where rand panics. [`sample`] draws no such index; in a view that has one, `len` still counts all the indices
+/// from the place on, and so is more than the items to come.
+///
+/// The draw is proved. The step is this crate's own, for it has no function at the C boundary: it is that of the Rattle function
+/// `IndexedSamples::next`.
+///
+/// ```
+/// use gapyndura::slice::IndexedSamples;
+///
+/// let items = ["a", "b", "c"];
+/// let mut view = IndexedSamples { items: &items, indices: &[2, 0], place: 0 };
+/// assert_eq!((view.len(), view.next()), (2, Some(&"c")));
+/// assert_eq!((view.len(), view.next()), (1, Some(&"a")));
+/// assert_eq!((view.len(), view.next()), (0, None));
+/// assert_eq!(view.place, 2);
+///
+/// let mut view = IndexedSamples { items: &items, indices: &[1, 3, 0], place: 1 };
+/// assert_eq!((view.next(), view.next()), (None, None));
+/// assert_eq!(view.place, 1);
+/// ```
+#[derive(Clone, Debug)]
+pub struct IndexedSamples<'a, 'i, T> {
+    /// The caller's items.
+    pub items: &'a [T],
+    /// The indices of those that are shown.
+    pub indices: &'i [u32],
+    /// The next place among the indices.
+    pub place: usize,
+}
+
+impl<'a, T> Iterator for IndexedSamples<'a, '_, T> {
+    type Item = &'a T;
+
+    fn next(&mut self) -> Option<&'a T> {
+        let index = *self.indices.get(self.place)?;
+        let item = self.items.get(index as usize)?;
+        self.place += 1;
+        Some(item)
+    }
+
+    fn size_hint(&self) -> (usize, Option<usize>) {
+        let remaining = self.indices.len().saturating_sub(self.place);
+        (remaining, Some(remaining))
+    }
+}
+
+impl<T> ExactSizeIterator for IndexedSamples<'_, '_, T> {}
+
+// Where it shows none it stays, so it shows none again.
+impl<T> FusedIterator for IndexedSamples<'_, '_, T> {}
+
+/// A view of drawn items, and what the draw took.
+#[derive(Clone, Debug)]
+pub struct Viewed<'a, 'i, T> {
+    /// The view, at its first item.
+    pub view: IndexedSamples<'a, 'i, T>,
+    /// How many words were read from the generator.
+    pub words: u64,
+}
+
+/// Draws `amount` of the items, in random order, or all of them where they are fewer, and lends a view that shows them.
+///
+/// The items, and the words read for them, are those of rand's `IndexedRandom::sample`. They may be of any type: none of them
+/// is read here. The draw is that of [`index::sample`] with as many indices as there are items for its length: `budget`,
+/// `indices`, which has to have an entry for each item drawn, and `scratch` are those of that call.
+///
+/// ```
+/// use gapyndura::Xoshiro256PlusPlus;
+/// use gapyndura::slice::sample;
+///
+/// let mut rng = Xoshiro256PlusPlus::seed_from_u64(1);
+/// let cities = ["Bern", "Lima", "Oslo", "Riga", "Rome"];
+/// let mut indices = [0; 3];
+/// let viewed = sample(&mut rng, &cities, 3, u64::MAX, &mut indices, &mut [])?;
+/// assert_eq!((viewed.view.len(), viewed.words), (3, 3));
+/// let drawn: Vec<&str> = viewed.view.copied().collect();
+/// assert_eq!(drawn, indices.map(|index| cities[index as usize]));
+///
+/// // No more are drawn than there are.
+/// let viewed = sample(&mut rng, &cities[..2], 3, u64::MAX, &mut indices, &mut [])?;
+/// assert_eq!(viewed.view.len(), 2);
+/// # Ok::<(), gapyndura::index::SampleError>(())
+/// ```
+///
+/// # Errors
+///
+/// The first of these that applies: [`ZeroState`](Refusal::ZeroState); [`TooLong`](Refusal::TooLong), for more than
+/// 2^32 - 2 items; [`SliceTooShort`](Refusal::SliceTooShort), for fewer entries of `indices` than items to be drawn;
+/// [`ScratchTooShort`](Refusal::ScratchTooShort), for fewer entries of `scratch` than items, only where the method in place is
+/// due; and [`BudgetExhausted`](Refusal::BudgetExhausted), where the method by rejection needs a word more than `budget`.
+/// Then there is no view. With the last of them exactly `budget` words are read, and the indices found stand at the front of
+/// `indices`, in order; with the others no word is read and no slice changed.
+///
+/// ```
+/// use gapyndura::{Refusal, Xoshiro256PlusPlus};
+/// use gapyndura::slice::sample;
+///
+/// let mut rng = Xoshiro256PlusPlus::seed_from_u64(1);
+/// let items = [(); 1_000_000];
+/// let mut indices = [0; 200];
+/// let error = sample(&mut rng, &items, 200, 7, &mut indices, &mut []).unwrap_err();
+/// assert_eq!((error.refusal, error.so_far.words), (Refusal::BudgetExhausted, 7));
+/// assert_eq!(error.so_far.count, 7);
+/// assert_eq!(indices[7..], [0; 193]);
+///
+/// let error = sample(&mut rng, &items, 201, 0, &mut indices, &mut []).unwrap_err();
+/// assert_eq!(error.refusal, Refusal::SliceTooShort);
+/// ```
+pub fn sample<'a, 'i, T>(
+    rng: &mut Xoshiro256PlusPlus,
+    items: &'a [T],
+    amount: u64,
+    budget: u64,
+    indices: &'i mut [u32],
+    scratch: &mut [u32],
+) -> Result<Viewed<'a, 'i, T>, SampleError> {
+    let count = items.len() as u64;
+    // A list may have one item less than an index sample has places. Too long a list is handed on as a length that is too
+    // long there, so that the refusal, and the one before it, come from the proved call.
+    let length = if count > MOST_ITEMS { u64::MAX } else { count };
+    let amount = amount.min(count);
+    let sampled = index::sample(rng, length, amount, budget, indices, scratch)?;
+    Ok(Viewed {
+        view: IndexedSamples {
+            items,
+            indices: &indices[..sampled.count],
+            place: 0,
+        },
+        words: sampled.words,
+    })
+}
+
+#[cfg(test)]
+mod tests {
+    use super::{IndexedSamples, sample};
+    use crate::{Refusal, Xoshiro256PlusPlus};
+
+    /// A place past the last index, also far past it, is the end of the view.
+    #[test]
+    fn a_view_stays_past_its_last_index() {
+        for place in [2, 3, usize::MAX] {
+            let mut view = IndexedSamples {
+                items: &[5, 6],
+                indices: &[1, 0],
+                place,
+            };
+            for _ in 0..3 {
+                assert_eq!((view.len(), view.next()), (0, None));
+                assert_eq!(view.place, place);
+            }
+        }
+    }
+
+    #[test]
+    fn a_view_stays_at_an_index_of_no_item() {
+        for index in [2, 3, u32::MAX] {
+            let mut view = IndexedSamples {
+                items: &[5, 6],
+                indices: &[1, index, 0],
+                place: 0,
+            };
+            assert_eq!((view.len(), view.next()), (3, Some(&6)));
+            for _ in 0..3 {
+                assert_eq!((view.len(), view.next()), (2, None));
+                assert_eq!(view.place, 1);
+            }
+        }
+    }
+
+    /// Items that take no memory, in any number.
+    #[test]
+    fn too_many_items_are_refused_after_no_generator() {
+        let most = (1 << 32) - 2;
+        let items = [(); 1 << 33];
+        let refusal = |from, count, indices: &mut [u32]| {
+            let mut rng = Xoshiro256PlusPlus::from_state(from);
+            let result = sample(&mut rng, &items[..count], 5, 9, indices, &mut []);
+            let refusal = result.err().map(|error| error.refusal);
+            assert_eq!(rng.state() == from, refusal.is_some());
+            refusal
+        };
+        for count in [most + 1, most + 2, items.len()] {
+            let mut indices = [7; 5];
+            assert_eq!(refusal([0; 4], count, &mut []), Some(Refusal::ZeroState));
+            for entries in [0, 5] {
+                let refused = refusal([1, 2, 3, 4], count, &mut indices[..entries]);
+                assert_eq!(refused, Some(Refusal::TooLong));
+            }
+            assert_eq!(indices, [7; 5]);
+        }
+        let short = refusal([1, 2, 3, 4], most, &mut [0; 4]);
+        assert_eq!(short, Some(Refusal::SliceTooShort));
+        assert_eq!(refusal([1, 2, 3, 4], most, &mut [0; 5]), None);
+    }
 }

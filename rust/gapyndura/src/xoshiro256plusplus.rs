@@ -1,6 +1,7 @@
 //! The generator.
 
-use crate::boundary::{gapyndura_from_seed, gapyndura_seed_from_u64};
+use crate::Refusal;
+use crate::boundary::{gapyndura_from_seed, gapyndura_next_u32, gapyndura_seed_from_u64};
 
 /// The generator xoshiro256++ of Blackman and Vigna, as four words of state.
 ///
@@ -75,6 +76,40 @@ impl Xoshiro256PlusPlus {
     #[must_use]
     pub const fn state(&self) -> [u64; 4] {
         self.state
+    }
+
+    /// Draws one word of 32 bits: the upper half of the generator's next output.
+    ///
+    /// It is that of rand's `next_u32`. The generator is lent to the call and is one step on afterwards.
+    ///
+    /// ```
+    /// use gapyndura::Xoshiro256PlusPlus;
+    ///
+    /// let mut rng = Xoshiro256PlusPlus::from_state([1, 2, 3, 4]);
+    /// // The first two outputs are 41943041 and 58720359, the third is 3588806011781223.
+    /// assert_eq!([rng.next_u32()?, rng.next_u32()?], [0, 0]);
+    /// assert_eq!(u64::from(rng.next_u32()?), 3588806011781223 >> 32);
+    /// # Ok::<(), gapyndura::Refusal>(())
+    /// ```
+    ///
+    /// # Errors
+    ///
+    /// [`ZeroState`](Refusal::ZeroState). Then no word is read; else it is one.
+    ///
+    /// ```
+    /// use gapyndura::{Refusal, Xoshiro256PlusPlus};
+    ///
+    /// let mut rng = Xoshiro256PlusPlus::from_state([0; 4]);
+    /// assert_eq!(rng.next_u32(), Err(Refusal::ZeroState));
+    /// assert_eq!(rng.state(), [0; 4]);
+    /// ```
+    pub fn next_u32(&mut self) -> Result<u32, Refusal> {
+        let mut out = [0; 2];
+        let number = gapyndura_next_u32(&mut self.state, &mut out);
+        Refusal::check(number)?;
+        let [_, word] = out;
+        // A word has 32 bits.
+        Ok(word as u32)
     }
 
     /// The four words of state, to be lent to a call that advances them.

@@ -1,9 +1,9 @@
 //! What the functions of the header write besides what the safe calls hand on.
 
 use super::{
-    gapyndura_choose, gapyndura_choose_stable, gapyndura_partial_shuffle, gapyndura_sample_fill,
-    gapyndura_shuffle, gapyndura_weights_new, gapyndura_weights_pick, gapyndura_weights_update,
-    gapyndura_weights_weight,
+    gapyndura_choose, gapyndura_choose_stable, gapyndura_next_u32, gapyndura_partial_shuffle,
+    gapyndura_sample_fill, gapyndura_shuffle, gapyndura_weights_new, gapyndura_weights_pick,
+    gapyndura_weights_update, gapyndura_weights_weight,
 };
 
 /// A call with a state, and with the out-parameter that is written.
@@ -38,6 +38,18 @@ const BEFORE: [u64; 2] = [77, 88];
 
 /// A generator.
 const STATE: [u64; 4] = [1, 2, 3, 4];
+
+/// Only the last word of the state is not 0: so the output is that word, turned by 23 bits.
+#[test]
+fn a_word_is_counted_as_one_and_a_refused_word_writes_zeros() {
+    let (mut state, mut out) = ([0, 0, 0, 5 << 9], BEFORE);
+    assert_eq!(gapyndura_next_u32(&mut state, &mut out), 0);
+    assert_eq!(out, [1, 5]);
+    assert_eq!(state, [5 << 9, 0, 0, 5 << 54]);
+    let (mut state, mut out) = ([0; 4], BEFORE);
+    assert_eq!(gapyndura_next_u32(&mut state, &mut out), 12);
+    assert_eq!((state, out), ([0; 4], [0; 2]));
+}
 
 /// The answer to a new table, and what is then in the record.
 fn new(weights: &[u32], sums: &mut [u32]) -> (u32, Table) {
