@@ -184,8 +184,8 @@ uint32_t gapyndura_weights_weight(const uint64_t table[2], const uint32_t *cumul
 uint32_t gapyndura_weights_pick(uint64_t state[4], const uint64_t table[2], const uint32_t *cumulative_weights,
                                 size_t cumulative_len, uint64_t budget, uint64_t out[2]);
 
-/* Chooses one of the items, each with the same chance, as if they were read one after another with hints of how many remain: for each
- * place p from 0 to items_len, at least lower[p] and at most upper[p] of the items from p on. An upper hint of 2^32 - 1 is none. So both
+/* Chooses one of the items as rand does, as if they were read one after another with hints of how many remain: for each place
+ * p from 0 to items_len, at least lower[p] and at most upper[p] of the items from p on. An upper hint of 2^32 - 1 is none. So both
  * lists have items_len + 1 entries. Better hints make the call faster and change which words it reads, and so which item is chosen: where
  * both agree at place 0, one draw does it; a lower hint of 2 or more is one draw for so many items; else coins are flipped for each item.
  * budget is the most words that it may read.

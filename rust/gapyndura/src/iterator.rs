@@ -121,7 +121,7 @@ impl From<ChooseError> for Refusal {
     }
 }
 
-/// Chooses one of the items, each as likely as another.
+/// Chooses one of the items.
 ///
 /// The item, and the words read for it, are those of rand's `IteratorRandom::choose` on an iterator with these hints. The
 /// better the hints, the fewer words: items that are known to remain are drawn from at once, the others one by one. So the
@@ -192,7 +192,7 @@ pub fn choose(
     chosen(number, out)
 }
 
-/// Chooses one of the items, each as likely as another, and the same one whatever the hints are.
+/// Chooses one of the items, and the same one whatever the hints are.
 ///
 /// The item, and the words read for it, are those of rand's `IteratorRandom::choose_stable`: coins decide for each item in
 /// turn whether it takes the place of the one chosen so far. Hints must hold, but nothing else hangs on them. The choice
