@@ -3,6 +3,8 @@
 //! The calls are proved in Rattle and linked as a static library for x86-64 Linux. This crate holds the safe side of that
 //! boundary and nothing else: each function lends its arguments to one function of `include/gapyndura.h`.
 //!
+//! The steps of a view, [`slice::IndexedSamples`], have no function there: they alone are written here.
+//!
 //! ```
 //! use gapyndura::Xoshiro256PlusPlus;
 //! use gapyndura::index::sample;

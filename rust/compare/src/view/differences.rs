@@ -54,7 +54,8 @@ fn a_view_is_lent_its_slices_and_has_a_budget() {
     assert_eq!((len, words), (1, 1));
     let refusal = |from, items: &[u32], amount, budget, indices: &mut [u32]| {
         let mut rng = Xoshiro256PlusPlus::from_state(from);
-        let error = sample(&mut rng, items, amount, budget, indices, &mut []).unwrap_err();
+        let mut scratch = [0; 11];
+        let error = sample(&mut rng, items, amount, budget, indices, &mut scratch).unwrap_err();
         assert_eq!((error.so_far.words, rng.state()), (0, from));
         error.refusal
     };
