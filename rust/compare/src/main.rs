@@ -85,7 +85,7 @@ fn run(arguments: &Arguments) -> Result<Tally, String> {
             sum += program::run(&program, arguments, &arguments.bound(lines, all));
         }
         Some(_) => {}
-        None => println!("words and draws: not compared, for want of --program PATH"),
+        None => println!("outputs and draws: not compared, for want of --program PATH"),
     }
     Ok(sum)
 }

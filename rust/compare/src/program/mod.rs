@@ -1,4 +1,4 @@
-//! The words and the draws, which have no function at the C boundary: the Rattle program `vectors` answers lists of random
+//! The outputs and the draws, which have no function at the C boundary: the Rattle program `vectors` answers lists of random
 //! calls, of every kind of line, and its answers are held to rand's, line by line.
 
 mod faults;
