@@ -75,7 +75,8 @@ fn list(source: &mut Source, left: &mut [u64; Name::ALL.len()]) -> Vec<Call> {
             if size >= LARGEST_LIST {
                 return calls;
             }
-            *left -= call.calls();
+            // A table has four calls, of which fewer may be left.
+            *left = left.saturating_sub(call.calls());
             calls.push(call);
         }
     }
