@@ -3,6 +3,7 @@
 mod allocation;
 mod choices;
 mod fills;
+mod lent;
 mod samples;
 mod shuffles;
 mod sides;
@@ -24,7 +25,7 @@ use weights::Work;
 static ALLOCATOR: Counting = Counting;
 
 /// The cases of the table.
-const CASES: [Case; 26] = [
+const CASES: [Case; 28] = [
     Case::sample(12, 351),
     Case::sample(12, 350),
     Case::sample(100, 10_000),
@@ -60,6 +61,8 @@ const CASES: [Case; 26] = [
     Case::choice(Choice::CHOOSE_EXACT, 1000),
     Case::choice(Choice::STABLE, 1000),
     Case::choice(Choice::STABLE_EXACT, 1000),
+    Case::NextU32,
+    Case::view(100, 10_000),
 ];
 
 /// A case that is measured once and apart: the port's filter is too small for it.

@@ -6,7 +6,7 @@ use reference::methods::Method;
 use crate::choices::{self, Choice};
 use crate::samples::{self, Sample};
 use crate::weights::{self, Work};
-use crate::{fills, shuffles};
+use crate::{fills, lent, shuffles};
 
 /// What is measured.
 #[derive(Clone, Copy, Debug)]
@@ -23,6 +23,10 @@ pub enum Case {
     Weights { work: Work, count: usize },
     /// A choice from so many items.
     Choice { choice: Choice, items: usize },
+    /// One word of a lent generator.
+    NextU32,
+    /// A view of drawn items, run through.
+    View(Sample),
 }
 
 /// A side of a case.
@@ -40,6 +44,10 @@ pub trait Side {
 impl Case {
     pub const fn sample(amount: u32, length: u32) -> Self {
         Self::Sample(Sample::new(amount, length))
+    }
+
+    pub const fn view(amount: u32, items: u32) -> Self {
+        Self::View(Sample::new(amount, items))
     }
 
     pub const fn weights(work: Work, count: usize) -> Self {
@@ -77,18 +85,29 @@ impl Case {
                 Box::new(choices::Theirs::new(choice, items)),
                 Box::new(choices::Ours::new(choice, items)),
             ],
+            Self::NextU32 => [
+                Box::new(lent::TheirWord::new()),
+                Box::new(lent::OurWord::new()),
+            ],
+            Self::View(view) => [
+                Box::new(lent::TheirView::new(view)),
+                Box::new(lent::OurView::new(view)),
+            ],
         }
     }
 
-    /// The numbers of the case: how many of how many. A whole shuffle, a table and a choice have one.
+    /// The numbers of the case: how many of how many. A whole shuffle, a table, a choice and a word have one.
     pub fn sizes(self) -> (Option<u64>, u64) {
         match self {
-            Self::Sample(sample) => (Some(sample.amount.into()), sample.length.into()),
+            Self::Sample(sample) | Self::View(sample) => {
+                (Some(sample.amount.into()), sample.length.into())
+            }
             Self::Shuffle { len } => (None, len as u64),
             Self::PartialShuffle { amount, len } => (Some(amount as u64), len as u64),
             Self::Fill { slots, items } => (Some(slots as u64), items as u64),
             Self::Weights { count, .. } => (None, count as u64),
             Self::Choice { items, .. } => (None, items as u64),
+            Self::NextU32 => (None, 1),
         }
     }
 
@@ -105,17 +124,19 @@ impl Case {
             Self::Fill { .. } => "fill",
             Self::Weights { work, .. } => work.name(),
             Self::Choice { choice, .. } => choice.name(),
+            Self::NextU32 => "next_u32",
+            Self::View(_) => "view, run through",
         }
     }
 
     /// The entries that the port is lent to write.
     pub fn lent(self) -> usize {
         match self {
-            Self::Sample(sample) => sample.amount as usize + sample.scratch(),
+            Self::Sample(sample) | Self::View(sample) => sample.amount as usize + sample.scratch(),
             Self::Shuffle { len } | Self::PartialShuffle { len, .. } => len,
             Self::Fill { slots, .. } => slots,
             Self::Weights { count, .. } => count - 1,
-            Self::Choice { .. } => 0,
+            Self::Choice { .. } | Self::NextU32 => 0,
         }
     }
 }

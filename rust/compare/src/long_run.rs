@@ -1,11 +1,12 @@
-//! Long mixed runs: one generator carried through many samples, shuffles, fills, picks and choices, so that a generator left in the
-//! wrong place shows in all that follows.
+//! Long mixed runs: one generator carried through many samples, shuffles, fills, picks, choices, words and views, so that a generator
+//! left in the wrong place shows in all that follows.
 
 use reference::choosing::{self, choose, choose_stable};
 use reference::filling::{Filling, sample_fill};
 use reference::plain_list::Record;
 use reference::sampling::{Ended, Sampling};
 use reference::shuffling::{Outcome, Shuffling, Whole, partial_shuffle, shuffle};
+use reference::viewing::{self, View, next_u32, view};
 use reference::weighing::pick;
 use reference::{State, hash};
 
@@ -16,7 +17,8 @@ use crate::kind::Kind;
 use crate::sample::{self, Sample};
 use crate::shuffle::{self, PartialShuffle, Shuffle};
 use crate::slices::Lent;
-use crate::weights;
+use crate::view::{self, IndexedSamples};
+use crate::{weights, word};
 
 /// The calls of a run.
 const CALLS: u64 = 1000;
@@ -54,6 +56,8 @@ struct Calls {
     pick: fn(State, Record, &[u32], u64) -> Ended,
     choose: choosing::Choose,
     choose_stable: choosing::Choose,
+    next_u32: viewing::NextU32,
+    view: View,
 }
 
 /// rand's calls.
@@ -65,6 +69,8 @@ const RAND: Calls = Calls {
     pick,
     choose,
     choose_stable,
+    next_u32,
+    view,
 };
 
 /// The port's calls.
@@ -76,11 +82,13 @@ const PORT: Calls = Calls {
     pick: weights::PORT.pick,
     choose: choose::port::choose,
     choose_stable: choose::port::choose_stable,
+    next_u32: word::port,
+    view: view::port::view,
 };
 
 impl Kind for LongRun {
     const NAME: &'static str =
-        "samples, shuffles, fills, picks and choices, one generator for many";
+        "samples, shuffles, fills, picks, choices, words and views, one generator for many";
     const FAULTS: &'static [&'static str] = &[GENERATOR_STAYS];
     const PARTS: usize = 2;
     type Input = Input;
@@ -159,7 +167,7 @@ impl Calls {
 
     /// A random call from this generator: how it ends, and the slices that it was lent.
     fn call(&self, from: State, source: &mut Source) -> (Ended, Vec<Lent>) {
-        match source.below(7) {
+        match source.below(9) {
             0 => self.sample(from, source),
             1 => {
                 let Shuffling { len, amount, .. } = PartialShuffle::random(source);
@@ -179,7 +187,9 @@ impl Calls {
             }
             4 => self.pick(from, source),
             5 => chosen(from, source, self.choose),
-            _ => chosen(from, source, self.choose_stable),
+            6 => chosen(from, source, self.choose_stable),
+            7 => ((self.next_u32)(from), Vec::new()),
+            _ => viewed(from, source, self.view),
         }
     }
 
@@ -216,4 +226,17 @@ fn chosen(from: State, source: &mut Source, end: choosing::Choose) -> (Ended, Ve
     };
     let answer = choose::Answer::new(&call, end);
     (answer.chosen.ended(), answer.lent.into())
+}
+
+/// How a view ends, the slices, and its steps as a slice.
+fn viewed(from: State, source: &mut Source, end: View) -> (Ended, Vec<Lent>) {
+    let call = Sampling {
+        from,
+        ..IndexedSamples::random(source)
+    };
+    let answer = view::Answer::new(&call, end);
+    let steps = answer.walk.steps.iter();
+    let steps = steps.flat_map(|&(item, len)| [item.map_or(0, |item| item + 1), len as u32]);
+    let steps = Lent::of(&steps.collect::<Vec<u32>>());
+    (answer.ended, vec![answer.indices, answer.scratch, steps])
 }

@@ -18,7 +18,9 @@ mod sample;
 mod seeding;
 mod shuffle;
 mod slices;
+mod view;
 mod weights;
+mod word;
 
 use std::env;
 use std::process::ExitCode;
@@ -29,11 +31,13 @@ use program::Program;
 use reference::call::Name;
 
 /// The kinds of call at the C boundary, in the order in which they are run.
-const KINDS: [Entry; 15] = [
+const KINDS: [Entry; 17] = [
     Entry::of::<seeding::FromSeed>(),
     Entry::of::<seeding::SeedFromU64>(),
+    Entry::of::<word::NextU32>(),
     Entry::of::<sample::Sample>(),
     Entry::of::<sample::choice::Choice>(),
+    Entry::of::<view::IndexedSamples>(),
     Entry::of::<shuffle::PartialShuffle>(),
     Entry::of::<shuffle::Shuffle>(),
     Entry::of::<fill::SampleFill>(),
@@ -81,7 +85,7 @@ fn run(arguments: &Arguments) -> Result<Tally, String> {
             sum += program::run(&program, arguments, &arguments.bound(lines, all));
         }
         Some(_) => {}
-        None => println!("words and draws: not compared, for want of --program PATH"),
+        None => println!("outputs and draws: not compared, for want of --program PATH"),
     }
     Ok(sum)
 }

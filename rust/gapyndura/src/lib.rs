@@ -4,6 +4,8 @@
 //! boundary and nothing else: each function lends its arguments to one function of `include/gapyndura.h`. It uses no
 //! allocator and no `std`: every slice is lent by the caller.
 //!
+//! The steps of a view, [`slice::IndexedSamples`], have no function there: they alone are written here.
+//!
 //! ```
 //! use gapyndura::Xoshiro256PlusPlus;
 //! use gapyndura::index::sample;

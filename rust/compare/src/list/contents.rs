@@ -8,7 +8,7 @@ use reference::call::{Call, Reading};
 use reference::words::{bounded, giving, rejecting};
 use reference::{State, state};
 
-use crate::{choices, samples, shuffles, weights};
+use crate::{choices, samples, shuffles, views, weights};
 
 /// The bounds that are drawn below: the least, powers of two, their neighbours, and the largest.
 const BOUNDS: [u32; 8] = [1, 2, 3, 6, 1 << 31, (1 << 31) + 1, u32::MAX - 1, u32::MAX];
@@ -67,6 +67,7 @@ pub fn sections() -> Vec<Section> {
     sections.extend(shuffles::sections());
     sections.extend(weights::sections());
     sections.extend(choices::sections());
+    sections.extend(views::sections());
     sections
 }
 

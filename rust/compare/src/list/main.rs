@@ -6,6 +6,7 @@ mod choices;
 mod contents;
 mod samples;
 mod shuffles;
+mod views;
 mod weights;
 
 use std::env;

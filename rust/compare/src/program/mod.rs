@@ -1,4 +1,4 @@
-//! The words and the draws, which have no function at the C boundary: the Rattle program `vectors` answers lists of random
+//! The outputs and the draws, which have no function at the C boundary: the Rattle program `vectors` answers lists of random
 //! calls, of every kind of line, and its answers are held to rand's, line by line.
 
 mod faults;
@@ -75,7 +75,8 @@ fn list(source: &mut Source, left: &mut [u64; Name::ALL.len()]) -> Vec<Call> {
             if size >= LARGEST_LIST {
                 return calls;
             }
-            *left -= call.calls();
+            // A table has four calls, of which fewer may be left.
+            *left = left.saturating_sub(call.calls());
             calls.push(call);
         }
     }

@@ -6,6 +6,7 @@ use reference::choose_line::{MOST_FEED, PATTERNS, Patterned};
 use reference::filling::Filling;
 use reference::sampling::Sampling;
 use reference::shuffling::{Shuffling, Whole};
+use reference::view_line::MOST_WORDS;
 use reference::weights_line::{MOST_ENTRIES, Weighing};
 use reference::words::{bounded, giving, rejecting};
 
@@ -16,6 +17,7 @@ use crate::kind::Kind;
 use crate::sample::Sample;
 use crate::seeding::{FromSeed, SeedFromU64};
 use crate::shuffle::{PartialShuffle, Shuffle};
+use crate::view::IndexedSamples;
 use crate::weights;
 
 /// The most readings of one line.
@@ -33,6 +35,8 @@ pub fn call(name: Name, source: &mut Source, most: u64) -> Call {
         Name::WeightedIndex => return Call::WeightedIndex(weighing(source)),
         Name::Choose => return Call::Choose(choice(source)),
         Name::ChooseStable => return Call::ChooseStable(choice(source)),
+        Name::IndexedSamples => return Call::IndexedSamples(view(source)),
+        Name::LentWords => return lent_words(source, most),
         Name::NextU64 => Reading::NextU64,
         Name::NextU32 => Reading::NextU32,
         Name::RandomRange => Reading::RandomRange { r: bound(source) },
@@ -127,6 +131,25 @@ fn choice(source: &mut Source) -> Patterned {
         budget: budget(source),
         items_len: choose::count(source).min(MOST_FEED),
         pattern: source.below(PATTERNS as u32).into(),
+    }
+}
+
+/// A view with items and slices for which the program has room.
+fn view(source: &mut Source) -> Sampling {
+    let call = IndexedSamples::random(source);
+    Sampling {
+        length: call.length.min(LONGEST_SLICE as u64),
+        indices_len: call.indices_len.min(LONGEST_SLICE),
+        scratch_len: call.scratch_len.min(LONGEST_SLICE),
+        ..call
+    }
+}
+
+/// Words of a lent generator, at most so many.
+fn lent_words(source: &mut Source, most: u64) -> Call {
+    Call::LentWords {
+        from: source.state_or_zero(),
+        count: most.min(1 + u64::from(source.below(MOST_WORDS as u32))),
     }
 }
 

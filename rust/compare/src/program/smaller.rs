@@ -11,6 +11,7 @@ use crate::kind::Kind;
 use crate::sample::Sample;
 use crate::seeding::{FromSeed, SeedFromU64};
 use crate::shuffle::{PartialShuffle, Shuffle};
+use crate::view::IndexedSamples;
 use crate::weights::lists;
 
 /// The lines that are one step smaller than this one.
@@ -24,6 +25,10 @@ pub fn than(call: &Call) -> Vec<Call> {
         Call::WeightedIndex(ref call) => each(weighings(call), Call::WeightedIndex),
         Call::Choose(ref call) => each(choices(call), Call::Choose),
         Call::ChooseStable(ref call) => each(choices(call), Call::ChooseStable),
+        Call::IndexedSamples(ref call) => each(IndexedSamples::smaller(call), Call::IndexedSamples),
+        Call::LentWords { from, count } => {
+            repeated(from, count, |from, count| Call::LentWords { from, count })
+        }
         Call::PartialShuffle { ref shuffling, at } => {
             let mut calls = each(PartialShuffle::smaller(shuffling), |shuffling| {
                 Call::PartialShuffle { shuffling, at }
@@ -42,20 +47,26 @@ pub fn than(call: &Call) -> Vec<Call> {
     }
 }
 
-/// So many readings: fewer of them, those that are left when some have been made, and others from smaller numbers.
+/// So many readings: fewer of them, or of smaller numbers.
 fn reads(reading: Reading, from: State, count: u64) -> Vec<Call> {
     let read = |reading, from, count| Call::Read {
         reading,
         from,
         count,
     };
-    let mut calls = each(1..count, |less| read(reading, from, less));
-    calls.extend((1..count).rev().map(|passed| {
-        let later = after(&read(reading, from, passed));
-        read(reading, later, count - passed)
-    }));
-    calls.extend(smaller_states(from).map(|less| read(reading, less, count)));
+    let mut calls = repeated(from, count, |from, count| read(reading, from, count));
     calls.extend(readings(reading).map(|less| read(less, from, count)));
+    calls
+}
+
+/// The same so many times from one generator: fewer times, those that are left when some are over, and the same from smaller states.
+fn repeated(from: State, count: u64, make: impl Fn(State, u64) -> Call) -> Vec<Call> {
+    let mut calls = each(1..count, |less| make(from, less));
+    calls.extend((1..count).rev().map(|passed| {
+        let later = after(&make(from, passed));
+        make(later, count - passed)
+    }));
+    calls.extend(smaller_states(from).map(|less| make(less, count)));
     calls
 }
 

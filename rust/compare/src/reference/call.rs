@@ -19,6 +19,8 @@ use crate::shuffle_line::{
     fill_numbers, filled, partial_numbers, partially_shuffled, whole_numbers, wholly_shuffled,
 };
 use crate::shuffling::{Shuffling, Whole, partial_shuffle, shuffle};
+use crate::view_line::{lent_words, viewed, words_numbers};
+use crate::viewing::{next_u32, view};
 use crate::weighing;
 use crate::weights_line::Weighing;
 use crate::{State, from_state, state};
@@ -26,7 +28,7 @@ use crate::{State, from_state, state};
 /// The size that no list reaches, in bytes: the Rattle program that is given it has room for 262,144.
 pub const LARGEST_LIST: usize = 256_000;
 
-/// The length that no slice of a list's call passes, in entries: that program has room for two slices of 50,176.
+/// The length that no slice of a list's call passes, in entries: that program has room for slices of 50,176.
 pub const LONGEST_SLICE: usize = 50_000;
 
 /// The kinds of line, by the names that rand has for the calls.
@@ -46,11 +48,13 @@ pub enum Name {
     WeightedIndex,
     Choose,
     ChooseStable,
+    IndexedSamples,
+    LentWords,
 }
 
 impl Name {
     /// All of them, in their order.
-    pub const ALL: [Self; 14] = [
+    pub const ALL: [Self; 16] = [
         Self::SeedFromU64,
         Self::FromSeed,
         Self::NextU64,
@@ -65,6 +69,8 @@ impl Name {
         Self::WeightedIndex,
         Self::Choose,
         Self::ChooseStable,
+        Self::IndexedSamples,
+        Self::LentWords,
     ];
 }
 
@@ -85,6 +91,8 @@ impl fmt::Display for Name {
             Self::WeightedIndex => "weighted_index",
             Self::Choose => "choose",
             Self::ChooseStable => "choose_stable",
+            Self::IndexedSamples => "indexed_samples",
+            Self::LentWords => "lent_words",
         })
     }
 }
@@ -178,6 +186,10 @@ pub enum Call {
     Choose(Patterned),
     /// A stable choice, of the same kind.
     ChooseStable(Patterned),
+    /// A view of drawn items, as many as the length says. [`crate::view_line`] says what the line and the answer are.
+    IndexedSamples(Sampling),
+    /// So many words of a lent generator. The same says what they are.
+    LentWords { from: State, count: u64 },
 }
 
 impl Call {
@@ -195,6 +207,8 @@ impl Call {
             Self::WeightedIndex(_) => Name::WeightedIndex,
             Self::Choose(_) => Name::Choose,
             Self::ChooseStable(_) => Name::ChooseStable,
+            Self::IndexedSamples(_) => Name::IndexedSamples,
+            Self::LentWords { .. } => Name::LentWords,
         }
     }
 
@@ -202,7 +216,7 @@ impl Call {
     #[must_use]
     pub fn calls(&self) -> u64 {
         match *self {
-            Self::Read { count, .. } => count,
+            Self::Read { count, .. } | Self::LentWords { count, .. } => count,
             Self::WeightedIndex(_) => 4,
             _ => 1,
         }
@@ -218,12 +232,13 @@ impl Call {
                 from,
                 count,
             } => [&from[..], &reading.numbers(), &[count]].concat(),
-            Self::Sample(ref sampling) => numbers(sampling),
+            Self::Sample(ref call) | Self::IndexedSamples(ref call) => numbers(call),
             Self::PartialShuffle { ref shuffling, at } => partial_numbers(shuffling, at),
             Self::Shuffle(ref whole) => whole_numbers(whole),
             Self::SampleFill(ref filling) => fill_numbers(filling),
             Self::WeightedIndex(ref weighing) => weighing.numbers(),
             Self::Choose(ref line) | Self::ChooseStable(ref line) => line.numbers(),
+            Self::LentWords { from, count } => words_numbers(from, count),
         }
     }
 
@@ -248,11 +263,14 @@ impl Call {
             Self::WeightedIndex(ref weighing) => weighing.answer(&weighing::RAND),
             Self::Choose(ref line) => line.answer(choose),
             Self::ChooseStable(ref line) => line.answer(choose_stable),
+            Self::IndexedSamples(ref call) => viewed(call, view),
+            Self::LentWords { from, count } => lent_words(from, count, next_u32),
             _ => self.answer_by(&RAND),
         }
     }
 
-    /// The answer of rand's generator with these draws in place of rand's. Shuffles, fills, tables and choices keep rand's own.
+    /// The answer of rand's generator with these draws in place of rand's. Shuffles, fills, tables, choices, views and lent words
+    /// keep rand's own.
     #[must_use]
     pub fn answer_by(&self, draws: &Draws) -> Vec<u64> {
         let (mut numbers, after) = match *self {
@@ -279,7 +297,9 @@ impl Call {
             | Self::SampleFill(_)
             | Self::WeightedIndex(_)
             | Self::Choose(_)
-            | Self::ChooseStable(_) => {
+            | Self::ChooseStable(_)
+            | Self::IndexedSamples(_)
+            | Self::LentWords { .. } => {
                 return self.answer();
             }
         };

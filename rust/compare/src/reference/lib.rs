@@ -16,6 +16,8 @@ pub mod sample_line;
 pub mod sampling;
 pub mod shuffle_line;
 pub mod shuffling;
+pub mod view_line;
+pub mod viewing;
 pub mod weighing;
 pub mod weights_line;
 pub mod words;

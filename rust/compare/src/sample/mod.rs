@@ -5,7 +5,7 @@ pub mod choice;
 mod faults;
 mod fixed;
 pub mod port;
-mod random;
+pub mod random;
 
 use reference::sampling::{Ended, Sampling};
 
@@ -13,6 +13,8 @@ use crate::inputs::{Source, smaller, smaller_states};
 use crate::kind::Kind;
 use crate::slices::Lent;
 use faults::{FAULTS, Fault};
+
+pub use fixed::scratch_needed;
 
 /// Calls of `sample`, each from a generator of its own.
 pub struct Sample {

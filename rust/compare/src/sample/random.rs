@@ -51,7 +51,7 @@ fn sizes(source: &mut Source) -> (u64, u64) {
 }
 
 /// A number of entries: what is needed, most often, or a few more, or fewer.
-fn around(source: &mut Source, needed: u64) -> usize {
+pub fn around(source: &mut Source, needed: u64) -> usize {
     let entries = match source.below(16) {
         0 => needed.saturating_sub(1),
         1 => needed / 2,
@@ -63,7 +63,7 @@ fn around(source: &mut Source, needed: u64) -> usize {
 }
 
 /// A budget: enough, or about what so many indices need, or less.
-fn budget(source: &mut Source, amount: u64) -> u64 {
+pub fn budget(source: &mut Source, amount: u64) -> u64 {
     match source.below(4) {
         0 => source.u64(),
         1 => amount

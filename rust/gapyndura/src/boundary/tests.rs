@@ -46,6 +46,11 @@ fn a_word_is_counted_as_one_and_a_refused_word_writes_zeros() {
     assert_eq!(gapyndura_next_u32(&mut state, &mut out), 0);
     assert_eq!(out, [1, 5]);
     assert_eq!(state, [5 << 9, 0, 0, 5 << 54]);
+    for _ in 0..10_000 {
+        out = BEFORE;
+        assert_eq!(gapyndura_next_u32(&mut state, &mut out), 0);
+        assert!(out[0] == 1 && out[1] < 1 << 32);
+    }
     let (mut state, mut out) = ([0; 4], BEFORE);
     assert_eq!(gapyndura_next_u32(&mut state, &mut out), 12);
     assert_eq!((state, out), ([0; 4], [0; 2]));

@@ -1,0 +1,167 @@
+//! The views of drawn items and the lent words of the list. There are at most 50,000 items.
+
+use reference::call::{Call, LONGEST_SLICE};
+use reference::methods::{Method, by_rand, due};
+use reference::sampling::Sampling;
+use reference::words::giving;
+use reference::{State, from_state};
+
+use crate::contents::{Section, some_state};
+
+/// Numbers of items and amounts: none, one, few, and on both sides of the methods' bounds.
+const VIEWS: [(u64, u64); 18] = [
+    (0, 0),
+    (1, 0),
+    (1, 1),
+    (2, 1),
+    (3, 3),
+    (10, 4),
+    (11, 11),
+    (12, 12),
+    (350, 11),
+    (350, 12),
+    (351, 12),
+    (43_610, 162),
+    (43_611, 162),
+    (44_009, 163),
+    (44_010, 163),
+    (49_950, 185),
+    (300, 300),
+    (50_000, 49_999),
+];
+
+/// Numbers of items and amounts above them.
+const CLIPPED: [(u64, u64); 7] = [
+    (0, 1),
+    (0, u64::MAX),
+    (1, 2),
+    (5, 9),
+    (12, 13),
+    (170, 1 << 32),
+    (50_000, u64::MAX),
+];
+
+/// States of which words are asked for: the authors', ones with few bits, and one that gives the least and the greatest word.
+const WORDS: [(State, u64); 7] = [
+    ([1, 2, 3, 4], 20),
+    ([u64::MAX; 4], 5),
+    ([1 << 63, 0, 0, 0], 5),
+    ([0, 1, 0, 0], 5),
+    ([0, 0, 1 << 32, 0], 5),
+    ([0, 0, 0, 1], 5),
+    ([5, 6, 7, 8], 0),
+];
+
+/// All views and lent words of the list.
+pub fn sections() -> Vec<Section> {
+    vec![
+        views("Views of drawn items", 700, &VIEWS),
+        views("Views of as many items as there are", 720, &CLIPPED),
+        budgets(44_010, 163),
+        refusals(),
+        words(),
+    ]
+}
+
+/// A view with a budget that suffices and slices that are longer than it needs, as far as there is room.
+fn viewing(from: State, length: u64, amount: u64) -> Sampling {
+    let drawn = amount.min(length);
+    let needed = match due(length as u32, drawn as u32) {
+        Method::InPlace => length,
+        _ => 0,
+    };
+    let longer = |len: u64| LONGEST_SLICE.min(len as usize + 2);
+    Sampling {
+        from,
+        length,
+        amount,
+        budget: drawn * 10,
+        indices_len: longer(drawn),
+        scratch_len: longer(needed),
+    }
+}
+
+/// Views of these sizes, each from a generator of its own.
+fn views(title: &str, first: u64, sizes: &[(u64, u64)]) -> Section {
+    let numbered = (first..).zip(sizes);
+    let calls: Vec<Call> = numbered
+        .map(|(number, &(length, amount))| {
+            Call::IndexedSamples(viewing(some_state(number), length, amount))
+        })
+        .collect();
+    assert!(calls.iter().all(|call| call.answer()[0] == 0));
+    Section::new(title, calls)
+}
+
+/// A view by rejection in which indices are drawn twice, with budgets from 0 to more than it needs.
+fn budgets(length: u64, amount: u64) -> Section {
+    let words = |from| by_rand(&mut from_state(from), length as u32, amount as u32).words();
+    let from = (740..)
+        .map(some_state)
+        .find(|&from| words(from) > amount + 1);
+    let from = from.expect("one of them draws indices twice");
+    let needed = words(from);
+    let budgets = [0, 1, 80, needed - 1, needed, needed + 1, u64::MAX];
+    let calls = budgets.map(|budget| {
+        Call::IndexedSamples(Sampling {
+            budget,
+            ..viewing(from, length, amount)
+        })
+    });
+    Section::new(
+        format!("Views of {amount} of {length} items within a budget; {needed} words are needed"),
+        calls.into(),
+    )
+}
+
+/// Each cause of a refusal, alone and with the next, and slices that are just long enough for the items there are.
+fn refusals() -> Section {
+    let dead = [0; 4];
+    let from = some_state(750);
+    // The state, the number of items, the amount, the budget, the two lengths, and the number that is due.
+    let asked = [
+        (dead, 0, 0, 0, 0, 0, 12),
+        (dead, 200, 163, 0, 10, 0, 12),
+        (from, 5, 3, 9, 2, 0, 8),
+        (from, 5, 9, 9, 4, 0, 8),
+        (from, 5, 9, 9, 5, 0, 0),
+        (from, 20, 12, 9, 11, 0, 8),
+        (from, 20, 12, 9, 12, 19, 9),
+        (from, 20, u64::MAX, 0, 20, 20, 0),
+        (from, 200, 163, 0, 200, 199, 9),
+        (from, 44_010, 163, 0, 162, 0, 8),
+        (from, 44_010, 163, 0, 163, 0, 13),
+    ];
+    let calls = asked.map(
+        |(from, length, amount, budget, indices_len, scratch_len, number)| {
+            let call = Call::IndexedSamples(Sampling {
+                from,
+                length,
+                amount,
+                budget,
+                indices_len,
+                scratch_len,
+            });
+            assert_eq!(call.answer()[0], number, "{call}");
+            call
+        },
+    );
+    Section::new(
+        "Views that are refused, and slices of every length",
+        calls.into(),
+    )
+}
+
+/// Words, among them those of four zeros, which are refused.
+fn words() -> Section {
+    let edges = [(giving(0, u32::MAX, 1), 2), (giving(u32::MAX, 0, 1), 2)];
+    let some = (760..764).map(|number| (some_state(number), 20));
+    let dead = [1, 3].map(|count| ([0; 4], count));
+    let asked = WORDS.into_iter().chain(edges).chain(some).chain(dead);
+    let calls: Vec<Call> = asked
+        .map(|(from, count)| Call::LentWords { from, count })
+        .collect();
+    let refused = calls.last().map(Call::answer);
+    assert_eq!(refused, Some(vec![12, 0, 12, 0, 12, 0, 0, 0, 0, 0, 0]));
+    Section::new("Words of a lent generator", calls)
+}

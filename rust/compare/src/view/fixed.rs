@@ -1,0 +1,126 @@
+//! The views that every run tries: small ones without gap, those at the bounds of the methods, budgets and refusals.
+
+use reference::from_state;
+use reference::methods::by_rand;
+use reference::sampling::Sampling;
+
+use crate::inputs::some_state;
+use crate::sample::scratch_needed;
+
+/// Every amount to two above the number of items is tried for every such number to this one, from so many generators.
+const SMALL: u64 = 40;
+const GENERATORS: u64 = 100;
+
+/// Numbers of items and amounts on both sides of the methods' bounds, and two of which all items are drawn.
+const AT_BOUNDS: [(u64, u64); 14] = [
+    (11, 11),
+    (350, 11),
+    (350, 12),
+    (351, 12),
+    (43_610, 162),
+    (43_611, 162),
+    (44_009, 163),
+    (44_010, 163),
+    (500_001, 12),
+    (500_001, 163),
+    (499_999, 2000),
+    (500_000, 2000),
+    (5000, 5000),
+    (100, 4_294_967_295),
+];
+
+/// Amounts above the number of items, by how much.
+const ABOVE: [u64; 4] = [1, 2, 1000, 1 << 32];
+
+/// A view with slices that are exactly long enough and a budget that suffices.
+fn exact(number: u64, length: u64, amount: u64) -> Sampling {
+    let drawn = amount.min(length);
+    Sampling {
+        from: some_state(number),
+        length,
+        amount,
+        budget: u64::MAX,
+        indices_len: drawn as usize,
+        scratch_len: scratch_needed(length, drawn),
+    }
+}
+
+/// The same with slices that are longer by so much.
+fn longer(call: &Sampling, by: usize) -> Sampling {
+    Sampling {
+        indices_len: call.indices_len + by,
+        scratch_len: call.scratch_len + by,
+        ..call.clone()
+    }
+}
+
+/// Hands over all of them.
+pub fn calls(mut visit: impl FnMut(Sampling)) {
+    for (number, longer_by) in (0..GENERATORS).zip([0, 1, 5].into_iter().cycle()) {
+        for length in 0..=SMALL {
+            for amount in (0..=length + 2).chain([u64::MAX]) {
+                visit(longer(&exact(number, length, amount), longer_by));
+            }
+        }
+    }
+    for (length, amount) in AT_BOUNDS {
+        at_bound(length, amount, &mut visit);
+    }
+    for length in [1, 11, 12, 162, 163, 2000] {
+        for by in ABOVE {
+            at_bound(length, length + by, &mut visit);
+        }
+    }
+    budgets(&exact(1, 44_010, 163), &mut visit);
+    for (length, amount) in [(20, 11), (9, 30), (40, 12), (13, u64::MAX), (44_010, 163)] {
+        refusals(&exact(length, length, amount), &mut visit);
+    }
+}
+
+/// A view with slices that are exactly long enough, longer, and one short.
+fn at_bound(length: u64, amount: u64, visit: &mut impl FnMut(Sampling)) {
+    for number in 0..3 {
+        let call = exact(number, length, amount);
+        visit(longer(&call, 7));
+        for (indices_short, scratch_short) in [(0, 0), (1, 0), (0, 1), (1, 1)] {
+            visit(Sampling {
+                indices_len: call.indices_len.saturating_sub(indices_short),
+                scratch_len: call.scratch_len.saturating_sub(scratch_short),
+                ..call.clone()
+            });
+        }
+    }
+}
+
+/// A view with every budget from 0 to more than it needs.
+fn budgets(call: &Sampling, visit: &mut impl FnMut(Sampling)) {
+    let mut rng = from_state(call.from);
+    let needed = by_rand(&mut rng, call.length as u32, call.amount as u32).words();
+    for budget in 0..=needed + 2 {
+        visit(Sampling {
+            budget,
+            ..longer(call, 2)
+        });
+    }
+}
+
+/// Every cause of a refusal that memory allows, alone and with all others: a bit of `causes` for each.
+fn refusals(call: &Sampling, visit: &mut impl FnMut(Sampling)) {
+    for causes in 0..16 {
+        let has = |cause: u32| causes >> cause & 1 == 1;
+        let mut refused = call.clone();
+        if has(0) {
+            refused.from = [0; 4];
+        }
+        if has(1) {
+            refused.indices_len -= 1;
+        }
+        if has(2) {
+            refused.scratch_len = call.scratch_len.saturating_sub(1);
+        }
+        if has(3) {
+            refused.budget = 0;
+        }
+        visit(refused);
+    }
+}
