@@ -24,9 +24,11 @@
 //! | Call | In rand | Reads at most |
 //! |---|---|---|
 //! | [`Xoshiro256PlusPlus::from_seed`], [`seed_from_u64`](Xoshiro256PlusPlus::seed_from_u64) | `SeedableRng` for `Xoshiro256PlusPlus`, and for `SmallRng` on a 64-bit target | no word |
+//! | [`Xoshiro256PlusPlus::next_u32`] | `Rng::next_u32` | one word |
 //! | [`index::sample`] | `seq::index::sample` | `budget` words by rejection, else two for each index |
 //! | [`slice::partial_shuffle`] | `SliceRandom::partial_shuffle` | two words for each item shuffled |
 //! | [`slice::shuffle`] | `SliceRandom::shuffle` | two words for each item |
+//! | [`slice::sample`] | `IndexedRandom::sample` | as [`index::sample`] |
 //! | [`iterator::sample_fill`] | `IteratorRandom::sample_fill` | two words for each item past the buffer |
 //! | [`iterator::choose`] | `IteratorRandom::choose` | `budget` words |
 //! | [`iterator::choose_stable`] | `IteratorRandom::choose_stable` | `budget` words |
@@ -47,7 +49,6 @@
 //! | In rand | Call instead |
 //! |---|---|
 //! | `choose` and `choose_mut` of a slice | [`index::sample`] with amount 1 |
-//! | `sample` of a slice | [`index::sample`], then the items at the indices |
 //! | `sample_array` | [`index::sample`]; the same for up to 11 indices |
 //! | `choose_iter` of a slice (with replacement) | picks from a table of weights that are all 1 |
 //! | `choose_weighted` and its like | [`weighted_index`], the index that is picked being the item's place |
@@ -57,7 +58,7 @@
 //! | weights of 8 or 16 bits | the same as `u32` |
 //! | weights of 64 or 128 bits, signed or float ones; `sample_weighted` | nothing |
 //! | lengths above 2^32 - 1 | nothing |
-//! | other generators, `Rng` as a trait, words and ranges by themselves | nothing |
+//! | other generators, `Rng` as a trait, words of 64 bits, ranges by themselves | nothing |
 //!
 //! `docs/DIFFERENCES.md` in the repository has them all, and where the Rust and this crate differ by intent.
 
