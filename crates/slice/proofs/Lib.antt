@@ -8,3 +8,5 @@ pub mod Parts
 pub mod View
 pub mod ViewDraws
 pub mod Again
+pub mod Lies
+pub mod Shorter
