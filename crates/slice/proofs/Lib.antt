@@ -10,3 +10,4 @@ pub mod ViewDraws
 pub mod Again
 pub mod Lies
 pub mod Shorter
+pub mod Collecting
