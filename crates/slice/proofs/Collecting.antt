@@ -9,11 +9,15 @@ use lib.Dec.{eqb, ltb}
 use lib.ListN.{length, getD, drop, set, length-set}
 use lib.Seq.{getD-set-same, getD-set-other, drop-set-lt, drop-drop}
 use borrow.Author.Tests.{eqb-true, eqb-false}
+use denote.Ref.{RefT, now}
 use Rattle.refusal.specs.Answer.{Answer, done}
-use Rattle.slice.specs.View.{Showing, answerOfItem, shows, showAt}
-use Rattle.slice.specs.Collecting.{Collects}
+use Rattle.index.specs.Sample as index
+use Rattle.index.specs.Sample.{Sampling}
+use Rattle.slice.specs.View.{Showing, answerOfItem, shows, showAt, drawnOf, Viewed}
+use Rattle.slice.specs.Collecting.{Collects, SamplesItems}
 use Rattle.slice.specs.declared.indexed_samples.Item.the-variants.{Some, None}
 use Rattle.slice.specs.declared.indexed_samples.Shown.{Shown}
+use Rattle.slice.specs.declared.indexed_samples.ViewSample.{ViewSample}
 use Rattle.slice.specs.declared.running.Collected.{Collected}
 
 -- an item shown at a place, and none
@@ -95,3 +99,14 @@ module _ (items indices before : List ℕ) where
     -- the end, for want of a slot or of an item
     pub ended : (n : ℕ) → n ≡ length indices → (k < length before → showAt items indices k ≡ none k) → Collects items indices before slots (record { len = n; place = k })
     ended n e last = record { len = e; each = g .each; rest = g .rest; slots = g .long; within = g .within; end = last }
+
+-- ---- the call that draws a view and runs it
+
+-- of the view that was drawn, and of the run of it
+module _ (items from : RefT (List ℕ)) (s : Sampling) (scratch before after : List ℕ) (made : ViewSample) (run : Collected) where
+  pub items-sampled : Viewed items from s scratch made → Collects (now (made .view .items)) (now (made .view .indices)) before after run
+      → SamplesItems (now items) s scratch before after (record { sampled = made .sampled; collected = run })
+  items-sampled d c = record {
+    sampled = ap (λ (l : List ℕ). index.ended (made .sampled) l scratch) (sym (d .slice .holds)) ∙ d .sampled;
+    collected = subst (λ (l : List ℕ). Collects l (drawnOf (s .answer) (s .indices)) before after run) (ap now (d .items)) (subst (λ (l : List ℕ). Collects (now (made .view .items)) l before after run) (d .indices .holds) c);
+  }

@@ -11,3 +11,4 @@ pub mod Again
 pub mod Lies
 pub mod Shorter
 pub mod Collecting
+pub mod Reclaim
