@@ -55,3 +55,17 @@ pub fn next_u32(rng: &mut Xoshiro256PlusPlus) -> LentWord
         words: stepped.words,
     }
 }
+
+// `next_u32` on a generator of its own. Its parameter is plain, so that a caller needs no reference to a struct: what it answers is what `step`
+// answers.
+pub fn lent_once(rng: Xoshiro256PlusPlus) -> Stepped
+    ensures { λ s. ⌜ ended (s .answer) (s .words) (s .rng) ≡ nextOf rng ⌝ }
+{
+    let mut own = rng;
+    let lent = next_u32(&mut own);
+    Stepped {
+        answer: lent.answer,
+        words: lent.words,
+        rng: own,
+    }
+}

@@ -8,3 +8,7 @@ pub mod Parts
 pub mod View
 pub mod ViewDraws
 pub mod Again
+pub mod Lies
+pub mod Shorter
+pub mod Collecting
+pub mod Reclaim

@@ -3,3 +3,4 @@ pub mod Shuffled
 pub mod Shares
 pub mod Parts
 pub mod View
+pub mod Collecting

@@ -11,6 +11,7 @@ use refusal::Refusal;
 use xoshiro256plusplus::Xoshiro256PlusPlus;
 
 pub mod indexed_samples;
+pub mod running;
 
 // The outcome, the place where the shuffled tail starts, the words read, and the generator after them.
 pub struct Shuffled {

@@ -4,11 +4,13 @@ use super::answers::put;
 use super::answers::put_state;
 use super::choosing;
 use super::filling;
+use super::lending;
 use super::sampling;
 use super::shuffling;
 use super::text::Numbers;
 use super::text::name_end;
 use super::text::read_numbers;
+use super::viewing;
 use super::weights;
 use check::same;
 use uniform_int::Draw;
@@ -50,7 +52,7 @@ fn bound(n: u64) -> u32
 }
 
 // What is read again and again from one generator.
-enum Reading {
+pub enum Reading {
     Output,
     Word,
     Bounded(u64),
@@ -84,7 +86,7 @@ fn bounded(rng: Xoshiro256PlusPlus, range: u64) -> Xoshiro256PlusPlus {
 }
 
 // One reading, written. The generator after it is returned.
-fn read_once(reading: Reading, rng: Xoshiro256PlusPlus) -> Xoshiro256PlusPlus {
+pub fn read_once(reading: Reading, rng: Xoshiro256PlusPlus) -> Xoshiro256PlusPlus {
     match reading {
         Reading::Output => {
             let o = rng.next_u64();
@@ -115,12 +117,26 @@ fn read_all(reading: Reading, rng: Xoshiro256PlusPlus, count: u64) {
     put_state(state);
 }
 
+// Makes the call, if it is one of those that lend a struct or hold one that borrows.
+fn make_lent(name: &[u8], n: Numbers) {
+    if same(name, b"indexed_samples") {
+        viewing::view(n);
+    }
+    if same(name, b"lent_words") {
+        lending::draw_words(n, false);
+    }
+    if same(name, b"lent_mixed") {
+        lending::draw_words(n, true);
+    }
+}
+
 // Makes the call on a line and writes its answer.
 pub fn make(line: &[u8]) {
     let end = name_end(line);
     let name = &line[..end];
     let n = read_numbers(line, end);
     let values = n.values;
+    make_lent(name, n);
     if same(name, b"seed_from_u64") {
         put_state(Xoshiro256PlusPlus::seed_from_u64(values[0]));
     }

@@ -10,10 +10,12 @@ mod calls;
 mod choosing;
 mod filling;
 mod hash;
+mod lending;
 mod sampling;
 mod shuffling;
 mod slices;
 mod text;
+mod viewing;
 mod weights;
 
 // Makes the call on each line.

@@ -34,16 +34,21 @@ pub fn put_front(items: &[u32]) {
     }
 }
 
-// Puts 0, 1, .. into a slice.
-pub fn count_up(items: &mut [u32]) {
-    let mut x: u32 = 0;
+// Puts `first`, `first + step`, .. into a slice, for as long as they are below 2^32.
+pub fn count_from(items: &mut [u32], first: u32, step: u32) {
+    let mut x = first;
     let mut i = 0;
     while i < items.len() {
         items[i] = x;
-        if x >= 0xffff_ffff {
+        if x > 0xffff_ffff - step {
             return;
         }
-        x += 1;
+        x += step;
         i += 1;
     }
+}
+
+// Puts 0, 1, .. into a slice.
+pub fn count_up(items: &mut [u32]) {
+    count_from(items, 0, 1);
 }

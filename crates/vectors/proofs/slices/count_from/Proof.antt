@@ -1,17 +1,17 @@
--- `count_up` is safe and ends. Assumes nothing.
+-- `count_from` is safe and ends. Assumes nothing.
 use mathlib.Core.Path.{_≡_, _∙_}
 use Prim.Native.Nat.{_-_, _≤_}
 use native.Mathlib.Omega.{arith}
 use lib.ListN.{length, length-set}
 use borrow.Author.Needs.{needs}
-use Rattle.vectors.proofs.slices.count_up.Statement.{statement}
-use Rattle.vectors.proofs.slices.count_up.Tie as tie
+use Rattle.vectors.proofs.slices.count_from.Statement.{statement}
+use Rattle.vectors.proofs.slices.count_from.Tie as tie
 
 abbrev Inv-loop : tie.InvT-loop
-Inv-loop items₀ x₀ i₀ items x i = (length items ≡ length items₀) × (i ≤ length items)
+Inv-loop items₀ first step x₀ i₀ items x i = (length items ≡ length items₀) × (i ≤ length items)
 
 abbrev μ-loop : tie.MeasureT-loop
-μ-loop items₀ x₀ i₀ items x i = length items₀ - i
+μ-loop items₀ first step x₀ i₀ items x i = length items₀ - i
 
 loop-holds : tie.Need-loop-holds Inv-loop μ-loop
 loop-holds c = search needs
@@ -21,6 +21,9 @@ mul-items c = search needs
 
 slice-write-items : tie.Need-slice-write-items Inv-loop μ-loop
 slice-write-items c = search needs
+
+sub-if1 : tie.Need-sub-if1 Inv-loop μ-loop
+sub-if1 c = search needs
 
 same-length : tie.Need-same-length Inv-loop μ-loop
 same-length c = search needs
@@ -48,8 +51,8 @@ same-length-2 c = search needs
 returns-2 : tie.Need-returns-2 Inv-loop μ-loop
 returns-2 c = search needs
 
-pub count-up-spec : {M : Type 1} → statement M
-count-up-spec =
+pub count-from-spec : {M : Type 1} → statement M
+count-from-spec =
     tie.close
     (tie.spec
     Inv-loop
@@ -57,6 +60,7 @@ count-up-spec =
     loop-holds
     mul-items
     slice-write-items
+    sub-if1
     same-length
     returns
     add-x

@@ -1,0 +1,118 @@
+// Views of drawn items: `sample` of crate slice, and the view's own `next` and `len`, run to the view's end and past it. A line is
+//     indexed_samples S0 S1 S2 S3 N AMOUNT BUDGET INDICES SCRATCH
+// with the generator's state, how many items there are, the amount, the budget, and how many entries the slice of indices and the scratch slice
+// have. The items are 7, 10, 13, ..: item i is 3 i + 7. Each slice has 50,176 entries where more are asked for, and the entries of the last two are
+// 4294967295 before the call. The answer has
+//     the number; the view's `len` at its start; the words read; the hash of the whole slice of indices; the hash of the scratch slice;
+//     the hash of the items shown, in their order; the first of them, twenty at most; the view's `len` at its end;
+//     1 where `next` gives none twice more and the view stays at its place, and else 0; the state.
+// A view whose draw is declined shows nothing: its `len` is 0, and its items have the hash of an empty slice.
+use super::answers::put;
+use super::answers::put_state;
+use super::calls::generator;
+use super::hash::hash;
+use super::slices::at_most;
+use super::slices::count_from;
+use super::slices::entries;
+use super::slices::put_front;
+use super::text::Numbers;
+use slice::indexed_samples::Item;
+use slice::running::ItemsSample;
+use slice::running::len_at;
+use slice::running::next_at;
+use slice::running::sample_items;
+
+fn is_none(item: Item) -> bool {
+    match item {
+        Item::Some(_) => false,
+        Item::None => true,
+    }
+}
+
+// Whether a view shows none at a place, stays there, and does the same once more.
+fn has_ended<'a>(items: &'a [u32], indices: &'a [u32], place: usize) -> bool {
+    let first = next_at(items, indices, place);
+    let second = next_at(items, indices, first.place);
+    let one = first.item;
+    let other = second.item;
+    is_none(one) && is_none(other) && second.place == place
+}
+
+// The view's `len` at the place where its run ended, and 1 or 0.
+fn put_end<'a>(items: &'a [u32], indices: &'a [u32], place: usize) {
+    put(len_at(items, indices, place) as u64);
+    if has_ended(items, indices, place) {
+        put(1);
+    } else {
+        put(0);
+    }
+}
+
+// The hash of the items shown, and the first of them.
+fn put_shown(shown: &[u32]) {
+    put(hash(shown));
+    put_front(shown);
+}
+
+// Draws the view, runs it, and writes the answer.
+fn view_with<'a>(
+    n: Numbers,
+    items: &'a [u32],
+    indices: &'a mut [u32],
+    scratch: &mut [u32],
+    slots: &mut [u32],
+) {
+    let values = n.values;
+    let made = sample_items(
+        generator(n),
+        items,
+        values[5],
+        values[6],
+        indices,
+        scratch,
+        slots,
+    );
+    let sampled = made.sampled;
+    let collected = made.collected;
+    let outcome = sampled.outcome;
+    put(outcome.number() as u64);
+    put(collected.len as u64);
+    put(sampled.words);
+    put(hash(indices));
+    put(hash(scratch));
+    let shown = at_most(collected.place as u64, slots);
+    put_shown(&slots[..shown]);
+    let len = at_most(collected.len as u64, indices);
+    put_end(items, &indices[..len], collected.place);
+    put_state(sampled.rng);
+}
+
+// Makes the items, and the view of them.
+fn view_of(
+    n: Numbers,
+    items: &mut [u32],
+    indices: &mut [u32],
+    scratch: &mut [u32],
+    slots: &mut [u32],
+) {
+    count_from(items, 7, 3);
+    view_with(n, items, indices, scratch, slots);
+}
+
+pub fn view(n: Numbers) {
+    let values = n.values;
+    let mut items = entries();
+    let mut indices = entries();
+    let mut scratch = entries();
+    let mut slots = entries();
+    let count = at_most(values[4], &items);
+    let a = at_most(values[7], &indices);
+    let b = at_most(values[8], &scratch);
+    view_of(
+        n,
+        &mut items[..count],
+        &mut indices[..a],
+        &mut scratch[..b],
+        &mut slots,
+    );
+}
