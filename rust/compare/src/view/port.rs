@@ -51,3 +51,34 @@ fn refused(error: SampleError, state: State) -> Ended {
         state,
     }
 }
+
+#[cfg(test)]
+mod tests {
+    use reference::call::joined;
+    use reference::sampling::Sampling;
+    use reference::view_line::viewed;
+
+    use super::view;
+    use crate::listed::lines;
+
+    #[test]
+    fn the_port_gives_the_views_of_the_list() {
+        let lines = lines("indexed_samples");
+        assert!(lines.len() > 40, "{} in the list", lines.len());
+        for listed in lines {
+            let [length, amount, budget, indices_len, scratch_len] = listed.numbers[..] else {
+                panic!("nine numbers: {}", listed.line);
+            };
+            let call = Sampling {
+                from: listed.from,
+                length,
+                amount,
+                budget,
+                indices_len: indices_len as usize,
+                scratch_len: scratch_len as usize,
+            };
+            let port = viewed(&call, view);
+            assert_eq!(joined(&port), listed.answer, "{}", listed.line);
+        }
+    }
+}
