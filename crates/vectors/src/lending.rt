@@ -1,12 +1,12 @@
 // Words drawn through a lent generator, by `next_u32` of crate rng_by_ref. There are two kinds of line:
 //     lent_words S0 S1 S2 S3 COUNT
 //     lent_mixed S0 S1 S2 S3 COUNT RANGE BUDGET
-// The first draws so many words one after another, 32 at most, and its answer has, for each, the number and the word; then the total of words
-// that the lent calls read, and the state. A word that is declined is 0: an all-zero state answers 12 and 0 each time, and stays.
-// The second has so many rounds, 8 at most, each of four calls on the one generator: a lent word, a bounded draw below RANGE as `random_range`
-// makes it, a lent word, and a rejecting draw below RANGE as `uniform_int` makes it. A round's answer has the number and the word; the draw's value and its
-// words; the number and the word; the draw's number, its value and its words. After the rounds come the total of words that the lent calls read, and the
-// state.
+// The first draws so many words one after another, 32 at most. Its answer has, for each, the number and the word; then the total of words that
+// the lent calls read, and the state. A word that is declined is 0: an all-zero state answers 12 and 0 each time, and stays.
+// The second has so many rounds, 8 at most, each of four calls on the one generator: a lent word, a bounded draw below RANGE as
+// `random_range` makes it, a lent word, and a rejecting draw below RANGE as `uniform_int` makes it under BUDGET. A round's answer has the number
+// and the word; the draw's value and its words; the number and the word; the draw's number, its value and its words. After the rounds come
+// the total of words that the lent calls read, and the state. A RANGE that is 0 or above 4294967295 counts as 1.
 use super::answers::put;
 use super::answers::put_state;
 use super::calls::Reading;

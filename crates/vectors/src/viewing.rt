@@ -17,7 +17,6 @@ use super::slices::entries;
 use super::slices::put_front;
 use super::text::Numbers;
 use slice::indexed_samples::Item;
-use slice::running::ItemsSample;
 use slice::running::len_at;
 use slice::running::next_at;
 use slice::running::sample_items;
