@@ -1,0 +1,4 @@
+pub mod Counted
+pub mod Every
+pub mod Values
+pub mod HexBytes
