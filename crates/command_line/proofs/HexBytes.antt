@@ -1,22 +1,20 @@
 -- The bytes of hex digits, byte after byte.
 -- Assumes nothing.
-use mathlib.Core.Path.{_≡_, refl, sym, ap, _∙_}
-use mathlib.Core.Bool.{Bool, true, false, cond, _&&_}
+use mathlib.Core.Path.{_≡_, refl, sym, _∙_}
+use mathlib.Core.Bool.{Bool, true, false, _&&_}
 use mathlib.Core.List.{List, [], _∷_, _++_, append-nil, append-assoc}
-use Prim.Native.Nat.{ℕ, zero, suc, _+_, _*_, _≤_, _<_}
+use Prim.Native.Nat.{ℕ, suc, _+_, _*_, _≤_, _<_}
 use native.Mathlib.Numerals.{add-one}
 use native.Mathlib.Omega.{arith}
 use lib.Dec.{eqb}
 use lib.ListN.{length, take, drop, set, getD, length-set, drop-of-length-le}
-use lib.Seq.{drop-cons, take-suc-set, take-all, append-snoc}
+use lib.Seq.{drop-cons, take-suc-set, take-all}
 use borrow.Author.Tests.{eqb-true, eq-eqb, ne-eqb}
 use Rattle.xoshiro256plusplus.specs.Seed.{seeded, fromSeed}
 use Rattle.command_line.specs.Digits.{digitOf, isDigit, every}
 use Rattle.command_line.specs.Decimal.{decimalOf}
 use Rattle.command_line.specs.Seed.{isHex, bytesOf, ofNumber, seedOf}
-use Rattle.command_line.specs.declared.decimal.Parsed.{Parsed}
 use Rattle.command_line.specs.declared.decimal.Parsed.the-variants.{Number, NoNumber, TooLarge}
-use Rattle.command_line.specs.declared.seed.Seed.{Seed}
 use Rattle.command_line.specs.declared.seed.Seed.the-variants.{Generator, NoSeed}
 
 -- the first i bytes are made, and those of the digits that are left follow them

@@ -2,3 +2,5 @@ pub mod Counted
 pub mod Every
 pub mod Values
 pub mod HexBytes
+pub mod Spelling
+pub mod ReadsBack

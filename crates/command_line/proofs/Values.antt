@@ -3,7 +3,7 @@
 use mathlib.Core.Path.{_≡_, refl, sym, ap, _∙_}
 use mathlib.Core.Bool.{Bool, true, false, _&&_, cond}
 use mathlib.Core.List.{List, [], _∷_}
-use Prim.Native.Nat.{ℕ, zero, suc, _+_, _*_, _^_, _≤_, _<_}
+use Prim.Native.Nat.{ℕ, _+_, _*_, _^_, _≤_, _<_}
 use native.Mathlib.Numerals.{add-one}
 use native.Mathlib.Omega.{arith}
 use lib.Dec.{ltb}
@@ -12,7 +12,6 @@ use lib.Seq.{drop-cons}
 use borrow.Author.Tests.{lt-ltb, le-ltb}
 use Rattle.command_line.specs.Digits.{digitOf, isDigit, every}
 use Rattle.command_line.specs.Decimal.{isDecimal, valueAfter, limited, decimalOf}
-use Rattle.command_line.specs.declared.decimal.Parsed.{Parsed}
 use Rattle.command_line.specs.declared.decimal.Parsed.the-variants.{Number, NoNumber, TooLarge}
 
 -- the first i digits make n, and what is left goes on from there

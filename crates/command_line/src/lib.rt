@@ -2,3 +2,4 @@
 pub mod decimal;
 mod digits;
 pub mod seed;
+pub mod spell;

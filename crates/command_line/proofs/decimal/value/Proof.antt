@@ -3,7 +3,6 @@ use Prim.Native.Nat.{_-_}
 use native.Mathlib.Omega.{arith}
 use lib.ListN.{length}
 use borrow.Author.Needs.{needs}
-use Rattle.command_line.specs.Digits.{isDigit}
 use Rattle.command_line.proofs.Values.{Valued, begin, turn, passed, finish}
 use Rattle.command_line.proofs.decimal.value.Statement.{statement}
 use Rattle.command_line.proofs.decimal.value.Tie as tie

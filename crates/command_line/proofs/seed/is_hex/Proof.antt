@@ -1,7 +1,6 @@
 -- `is_hex` meets its contract. Assumes nothing.
 use mathlib.Core.Path.{_∙_}
 use borrow.Author.Needs.{needs}
-use borrow.Author.Tests.{eqb-true, eqb-false, not-true, not-false}
 use Rattle.command_line.proofs.HexBytes.{short, long}
 use Rattle.command_line.proofs.seed.is_hex.Statement.{statement}
 use Rattle.command_line.proofs.seed.is_hex.Tie as tie
