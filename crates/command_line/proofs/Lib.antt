@@ -4,3 +4,4 @@ pub mod Values
 pub mod HexBytes
 pub mod Spelling
 pub mod ReadsBack
+pub mod Copying

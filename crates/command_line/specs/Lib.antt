@@ -2,3 +2,4 @@ pub mod Digits
 pub mod Decimal
 pub mod Seed
 pub mod Spell
+pub mod Block

@@ -1,4 +1,5 @@
-// Which words of a command line are numbers or seeds, and which number or generator each of them is.
+// Text of a command line: which words are numbers or seeds, and which number or generator each of them is; a generator as a seed; text in a slice.
+pub mod block;
 pub mod decimal;
 mod digits;
 pub mod seed;

@@ -1,1 +1,1 @@
-pub mod Block
+pub mod Full

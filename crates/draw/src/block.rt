@@ -1,23 +1,10 @@
 // Text that is collected in a block, and written when the block is full: a call of the system for a block, not for a number.
-ghost use mathlib.Core.Path.{_≡_};
-ghost use Prim.Native.Nat.{_+_, _≤_};
-ghost use mathlib.Core.List.{_++_};
+ghost use Prim.Native.Nat.{_≤_};
 ghost use lib.ListN.{length, take};
-ghost use Rattle.draw.specs.Block.{Holds, held};
+ghost use Rattle.command_line.specs.Block.{Holds};
+ghost use Rattle.draw.specs.Full.{held};
+use command_line::block::append;
 use libc::STDOUT_FILENO;
-
-// Puts a text behind the `used` bytes that the block holds.
-fn append(block: &mut [u8], used: usize, text: &[u8]) -> usize
-    requires { ⌜ used + length (now text) ≤ length (now block) ⌝ }
-    ensures { λ r. ⌜ Holds (now (block .exit)) r (take used (now (block .entry)) ++ now (text .entry)) ⌝ }
-{
-    let mut i = 0;
-    while i < text.len() {
-        block[used + i] = text[i];
-        i += 1;
-    }
-    used + i
-}
 
 // Puts a text into a block that holds `used` bytes, and answers how many it holds then: the definition `held`. Where the text does not fit
 // behind them they are written first, and a text that is longer than the block is written by itself.

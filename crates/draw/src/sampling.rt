@@ -11,7 +11,6 @@ use super::words::number;
 use super::words::seed;
 use command_line::decimal::Parsed;
 use command_line::seed::Seed;
-use libc::STDOUT_FILENO;
 use refusal::Outcome;
 use xoshiro256plusplus::Xoshiro256PlusPlus;
 
@@ -63,9 +62,6 @@ pub fn sample(o: Options, places: &[u32; 65539]) {
 
 // The draw that is made where nothing is asked for.
 pub fn first() {
-    io::write_all(
-        STDOUT_FILENO,
-        b"draw sample 1 100 10, as an example (draw help says what there is):\n",
-    );
+    answers::say(b"draw sample 1 100 10   (an example; 'draw help' says what else there is)\n");
     sample_of(unset(), Xoshiro256PlusPlus::seed_from_u64(1), 100, 10);
 }

@@ -3,7 +3,7 @@ use mathlib.Core.Path.{sym}
 use native.Mathlib.Omega.{arith}
 use lib.Seq.{length-take-le}
 use borrow.Author.Needs.{needs}
-use Rattle.draw.proofs.Blocks.{fits, alone, longer}
+use Rattle.draw.proofs.Filled.{fits, alone, longer}
 use Rattle.draw.proofs.block.put.Statement.{statement}
 use Rattle.draw.proofs.block.put.Tie as tie
 

@@ -1,15 +1,9 @@
--- What a block of text holds.
-use mathlib.Core.Path.{_≡_}
+-- A block that may be too full for a text.
 use mathlib.Core.Bool.{cond}
 use mathlib.Core.List.{List, [], _++_}
-use Prim.Native.Nat.{ℕ, _+_, _≤_}
+use Prim.Native.Nat.{ℕ, _+_}
 use lib.Dec.{leb}
-use lib.ListN.{length, take}
-
--- the first n bytes of a block are this text
-pub record Holds (block : List ℕ) (n : ℕ) (text : List ℕ) : Type 0 where
-  pub within : n ≤ length block
-  pub front : take n block ≡ text
+use lib.ListN.{length}
 
 -- what a block with so much room holds once a text is put behind what it held: both, or where they do not fit the text alone, since what it held is
 -- written then; a longer text than the room is written by itself

@@ -2,13 +2,12 @@
 -- Assumes nothing.
 use mathlib.Core.Path.{_≡_, refl, ap, _∙_}
 use mathlib.Core.List.{List, _++_}
-use Prim.Native.Nat.{ℕ, _+_, _-_, _≤_, _<_}
+use Prim.Native.Nat.{ℕ, _+_, _≤_, _<_}
 use native.Mathlib.Numerals.{add-one}
 use native.Mathlib.Omega.{arith}
 use lib.ListN.{length, take, set, getD, length-set}
-use lib.Seq.{paste, paste-zero, paste-suc, take-paste, take-length, length-take-le}
-use borrow.Author.Tests.{le-leb, lt-leb}
-use Rattle.draw.specs.Block.{Holds, held}
+use lib.Seq.{paste, paste-zero, paste-suc, take-paste, take-length}
+use Rattle.command_line.specs.Block.{Holds}
 
 -- the first i bytes of the text stand behind those that the block held
 pub record Copied (entry now text : List ℕ) (used i : ℕ) : Type 0 where
@@ -33,21 +32,3 @@ finish entry now text used i h room c =
     let all : i ≡ length text = omega (arith, c .within) in
     let front : take (used + i) now ≡ take used entry ++ take i text = ap (take (used + i)) (c .known) ∙ take-paste entry used text i (omega arith) (c .within) in
     record { within = omega (arith, c .full); front = front ∙ rw (all, take-length text) }
-
--- ---- the three ways of putting a text
-
-module _ (entry text : List ℕ) (used : ℕ) (within : used ≤ length entry) where
-  size : length (take used entry) ≡ used
-  size = length-take-le used entry within
-
-  pub fits : length text ≤ length entry - used → (now : List ℕ) (r : ℕ) → Holds now r (take used entry ++ text) → Holds now r (held (length entry) (take used entry) text)
-  unfolding held
-  fits h now r p = rw (le-leb (length (take used entry) + length text) (length entry) (omega (arith, size))) p
-
-  pub alone : length entry - used < length text → length text ≤ length entry → (now : List ℕ) (r : ℕ) → Holds now r (take 0 entry ++ text) → Holds now r (held (length entry) (take used entry) text)
-  unfolding held
-  alone m h now r p = rw (lt-leb (length (take used entry) + length text) (length entry) (omega (arith, size)), le-leb (length text) (length entry) h) p
-
-  pub longer : length entry - used < length text → length entry < length text → Holds entry 0 (held (length entry) (take used entry) text)
-  unfolding held
-  longer m h = rw (lt-leb (length (take used entry) + length text) (length entry) (omega (arith, size)), lt-leb (length text) (length entry) h) (record { within = omega arith; front = refl })

@@ -2,9 +2,9 @@
 use Prim.Native.Nat.{_-_}
 use native.Mathlib.Omega.{arith}
 use lib.ListN.{length}
-use Rattle.draw.proofs.Blocks.{Copied, begin, turn, finish}
-use Rattle.draw.proofs.block.append.Statement.{statement}
-use Rattle.draw.proofs.block.append.Tie as tie
+use Rattle.command_line.proofs.Copying.{Copied, begin, turn, finish}
+use Rattle.command_line.proofs.block.append.Statement.{statement}
+use Rattle.command_line.proofs.block.append.Tie as tie
 
 abbrev Inv-loop : tie.InvT-loop
 Inv-loop block₀ used text i₀ block i = Copied block₀ block text used i
