@@ -86,7 +86,7 @@ fn take_plain(mut o: Options, i: usize, places: &mut [u32; 65539]) -> Step
     if k >= 65539 {
         faults::of(
             b"there",
-            b" are more than 65539 words",
+            b" are more than 65539 arguments",
             b"at most 65536 weights, the entries that a slice of this program has",
         );
         return stop(o, i);
@@ -201,7 +201,7 @@ fn take(o: Options, i: usize, places: &mut [u32; 65539]) -> Step
     let mut buf = [0u8; 256];
     let n = os::arg(i, &mut buf);
     if os::errno() != 0 {
-        faults::of(b"a word", b" is too long", b"at most 256 bytes");
+        faults::of(b"an argument", b" is too long", b"at most 256 bytes");
         return stop(o, i);
     }
     let word = &buf[..n];

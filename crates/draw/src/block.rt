@@ -33,9 +33,11 @@ pub fn put_number(block: &mut [u8], used: usize, n: u64) -> usize
     put(block, used, &text[..k])
 }
 
-// Writes what the block holds.
+// Writes what the block holds. Where that fails a line on standard error says why.
 pub fn end(block: &mut [u8], used: usize)
     requires { ⌜ used ≤ length (now block) ⌝ }
 {
-    io::write_all(STDOUT_FILENO, &block[..used]);
+    if !io::write_all(STDOUT_FILENO, &block[..used]) {
+        os::fail(b"draw: the answer cannot be written");
+    }
 }

@@ -1,5 +1,6 @@
 // Choices of one of the numbers 0, 1, ..
 ghost use Prim.Native.Nat.{_≤_};
+ghost use lib.ListN.{length};
 use super::answers;
 use super::answers::told;
 use super::arguments::Options;
@@ -16,23 +17,15 @@ use iterator::choose::Choice;
 use iterator::choose::Chosen;
 use xoshiro256plusplus::Xoshiro256PlusPlus;
 
-// How many of n items remain at a place.
-fn remaining(n: u64, place: u64) -> u64
-    ensures { λ r. ⌜ r ≤ n ⌝ }
+// Writes exact hints: at each place how many items remain, and 0 at the last, which is behind all of them.
+fn put_exact(hints: &mut [u32])
+    requires { ⌜ length (now hints) ≤ 65537 ⌝ }
 {
-    if place > n {
-        return 0;
-    }
-    n - place
-}
-
-// Writes exact hints, both lists alike: how many items remain.
-fn put_exact(n: u64, hints: &mut [u32])
-    requires { ⌜ n ≤ 65536 ⌝ }
-{
+    let n = hints.len();
     let mut place = 0;
     while place < hints.len() {
-        hints[place] = remaining(n, place as u64) as u32;
+        let remain = (n - 1 - place) as u32;
+        hints[place] = remain;
         place += 1;
     }
 }
@@ -47,12 +40,12 @@ fn put_same(hint: u32, hints: &mut [u32]) {
 }
 
 // Writes both lists of hints: exact ones, or at least none and no upper bound.
-fn put_hints(is_exact: bool, n: u64, lower: &mut [u32], upper: &mut [u32])
-    requires { ⌜ n ≤ 65536 ⌝ }
+fn put_hints(is_exact: bool, lower: &mut [u32], upper: &mut [u32])
+    requires { ⌜ (length (now lower) ≤ 65537) × (length (now upper) ≤ 65537) ⌝ }
 {
     if is_exact {
-        put_exact(n, lower);
-        put_exact(n, upper);
+        put_exact(lower);
+        put_exact(upper);
     } else {
         put_same(0, lower);
         put_same(0xffff_ffff, upper);
@@ -95,28 +88,26 @@ fn answer(o: Options, c: Chosen) {
 fn choose_in(
     o: Options,
     rng: Xoshiro256PlusPlus,
-    n: u64,
     items: &mut [u32],
     lower: &mut [u32],
     upper: &mut [u32],
 )
-    requires { ⌜ n ≤ 65536 ⌝ }
+    requires { ⌜ (length (now lower) ≤ 65537) × (length (now upper) ≤ 65537) ⌝ }
 {
     count_up(items);
-    put_hints(o.is_exact, n, lower, upper);
+    put_hints(o.is_exact, lower, upper);
     answer(o, chosen(o, rng, items, lower, upper));
 }
 
-fn choose_of(o: Options, rng: Xoshiro256PlusPlus, n: u64)
-    requires { ⌜ n ≤ 65536 ⌝ }
-{
+fn choose_of(o: Options, rng: Xoshiro256PlusPlus, length: u64) {
     let mut items = entries();
     let mut lower = hint_entries();
     let mut upper = hint_entries();
-    let a = at_most(n, &items);
-    let b = at_most(n + 1, &lower);
-    let c = at_most(n + 1, &upper);
-    choose_in(o, rng, n, &mut items[..a], &mut lower[..b], &mut upper[..c]);
+    let n = at_most(length, &items);
+    let hints = n as u64 + 1;
+    let a = at_most(hints, &lower);
+    let b = at_most(hints, &upper);
+    choose_in(o, rng, &mut items[..n], &mut lower[..a], &mut upper[..b]);
 }
 
 // `choose SEED LENGTH`
@@ -130,8 +121,5 @@ pub fn choose(o: Options, places: &[u32; 65539]) {
     let Parsed::Number(length) = size(places, 2, b"LENGTH") else {
         return;
     };
-    if length > 65536 {
-        return;
-    }
     choose_of(o, rng, length);
 }

@@ -14,20 +14,21 @@ pub fn show() {
   draw help                          this text
   draw                               a first example
 
-SEED is a decimal number (for rand's seed_from_u64) or 64 hex digits, two to a byte (for from_seed).
-The other words are decimal numbers to 18446744073709551615, weights to 4294967295. Options stand anywhere:
+SEED is a decimal number (for rand's seed_from_u64) or 64 hex digits, two to a byte (for from_seed);
+64 digits are hex. The other arguments are decimal numbers to 18446744073709551615, weights to
+4294967295. Options may stand anywhere:
 
   --words          adds the words read, and the generator after them as a SEED that goes on from there
-  --budget N       for sample, pick and choose: read at most N words, in all picks together
-                   (where it is not given: 18446744073709551615)
+  --budget N       for pick, choose and a sample by rejection, which alone could read on for ever: read
+                   at most N words, in all picks together (18446744073709551615 if it is not given)
   --stable         for choose: the choice that does not depend on hints
-  --hints exact    for choose: the hints say how many numbers remain (where none are given)
+  --hints exact    for choose: the hints say how many numbers remain (also if none are given)
   --hints none     for choose: the hints say nothing
 
 The answer is a line of numbers. A draw that is declined answers 'refused' and a number, and on the next
-line what that means; what was drawn before is not shown. Wrong words are told in one line, and nothing
-is drawn. The slices hold 65536 entries each. A sample that needs more is refused 8 or 9. For the others
-a LENGTH, fill's AMOUNT, PICKS or a count of weights above 65536 is wrong.
+line what that means; what was drawn before is not shown. Wrong arguments are told in one line, and
+nothing is drawn. The slices hold 65536 entries each. A sample that needs more is refused 8 or 9; for
+the others a LENGTH, fill's AMOUNT, PICKS or a count of weights above 65536 is a wrong argument.
 ",
     );
 }

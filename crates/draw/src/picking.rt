@@ -1,6 +1,8 @@
 // Picks by weight, one after another from one generator.
-ghost use Prim.Native.Nat.{_<_, _≤_};
+ghost use mathlib.Core.Path.{_≡_};
+ghost use Prim.Native.Nat.{_-_, _<_, _≤_};
 ghost use lib.ListN.{length};
+ghost use Rattle.draw.specs.Picks.{Ended, picksOf};
 use super::answers;
 use super::answers::told;
 use super::arguments::Options;
@@ -31,7 +33,7 @@ struct Picks {
 
 // What is left of a budget after so many words; a pick never reads more than it has.
 fn after(left: u64, words: u64) -> u64
-    ensures { λ r. ⌜ r ≤ left ⌝ }
+    ensures { λ r. ⌜ r ≡ left - words ⌝ }
 {
     if words > left {
         return 0;
@@ -39,14 +41,17 @@ fn after(left: u64, words: u64) -> u64
     left - words
 }
 
-// Fills the slice with picks. Each has of the budget what those before it left. A refusal ends them.
+// Fills the slice with picks, one generator through all of them: the definition `picksOf`. Each has of the budget what those before it left,
+// and a refusal ends them.
 fn pick_all(
     rng: Xoshiro256PlusPlus,
     table: WeightedIndex,
     sums: &[u32],
     budget: u64,
     picks: &mut [u32],
-) -> Picks {
+) -> Picks
+    ensures { λ r. ⌜ Ended r (now (picks .exit)) (picksOf (length (now (picks .entry))) rng table (now (sums .entry)) budget) ⌝ }
+{
     let mut state = rng;
     let mut left = budget;
     for i in 0..picks.len() {

@@ -14,11 +14,23 @@ slice-aggregate-write-all c = sym (length-take-le _ _ (c .before .before .pre))
 write-all-requires : tie.Need-write-all-requires
 write-all-requires c κs = search needs
 
+slice-aggregate-fail : tie.Need-slice-aggregate-fail
+slice-aggregate-fail c = search needs
+
+fail-requires : tie.Need-fail-requires
+fail-requires c κs = search needs
+
 same-length : tie.Need-same-length
 same-length c = search needs
 
 returns : tie.Need-returns
 returns c = search needs
+
+same-length-2 : tie.Need-same-length-2
+same-length-2 c = search needs
+
+returns-2 : tie.Need-returns-2
+returns-2 c = search needs
 
 pub end-spec : {M : Type 1} → statement M
 end-spec =
@@ -27,5 +39,9 @@ end-spec =
     slice-reshare-prefix-write-all
     slice-aggregate-write-all
     write-all-requires
+    slice-aggregate-fail
+    fail-requires
     same-length
-    returns)
+    returns
+    same-length-2
+    returns-2)

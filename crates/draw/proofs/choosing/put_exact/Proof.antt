@@ -8,19 +8,22 @@ use Rattle.draw.proofs.choosing.put_exact.Statement.{statement}
 use Rattle.draw.proofs.choosing.put_exact.Tie as tie
 
 abbrev Inv-loop : tie.InvT-loop
-Inv-loop n hints₀ place₀ hints place = (length hints ≡ length hints₀) × (place ≤ length hints)
+Inv-loop hints₀ n place₀ hints place = (length hints ≡ length hints₀) × (place ≤ length hints) × (n ≡ length hints₀)
 
 abbrev μ-loop : tie.MeasureT-loop
-μ-loop n hints₀ place₀ hints place = length hints₀ - place
+μ-loop hints₀ n place₀ hints place = length hints₀ - place
 
 loop-holds : tie.Need-loop-holds Inv-loop μ-loop
 loop-holds c = search needs
 
-remaining-requires : tie.Need-remaining-requires Inv-loop μ-loop
-remaining-requires c κs = search needs
+sub-remain : tie.Need-sub-remain Inv-loop μ-loop
+sub-remain c = search needs
 
-cast-hints : tie.Need-cast-hints Inv-loop μ-loop
-cast-hints c = search needs
+sub-remain-2 : tie.Need-sub-remain-2 Inv-loop μ-loop
+sub-remain-2 c = search needs
+
+cast-remain : tie.Need-cast-remain Inv-loop μ-loop
+cast-remain c = search needs
 
 mul-hints : tie.Need-mul-hints Inv-loop μ-loop
 mul-hints c = search needs
@@ -35,7 +38,9 @@ loop-less : tie.Need-loop-less Inv-loop μ-loop
 loop-less c = search needs
 
 loop-again : tie.Need-loop-again Inv-loop μ-loop
-loop-again c = (simp length-set (c .before .before .loop .inv .0), simp length-set (omega arith))
+loop-again c =
+    let l = c .before .loop in
+    (simp length-set (l .inv .0), simp length-set (omega arith), l .inv .2)
 
 same-length : tie.Need-same-length Inv-loop μ-loop
 same-length c = search needs
@@ -50,8 +55,9 @@ put-exact-spec =
     Inv-loop
     μ-loop
     loop-holds
-    remaining-requires
-    cast-hints
+    sub-remain
+    sub-remain-2
+    cast-remain
     mul-hints
     slice-write-hints
     add-place
