@@ -1,0 +1,5 @@
+pub mod Digits
+pub mod Decimal
+pub mod Seed
+pub mod Spell
+pub mod Block

@@ -1,0 +1,6 @@
+// Text of a command line: which words are numbers or seeds, and which number or generator each of them is; a generator as a seed; text in a slice.
+pub mod block;
+pub mod decimal;
+mod digits;
+pub mod seed;
+pub mod spell;
