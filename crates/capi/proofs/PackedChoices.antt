@@ -3,8 +3,8 @@
 use mathlib.Core.Path.{_≡_}
 use mathlib.Core.List.{List, _∷_}
 use Prim.Native.Nat.{ℕ}
-use Rattle.iterator.specs.Turns as turns
-use Rattle.iterator.specs.declared.choose.Chosen.{Chosen}
+use Rattle.choose.specs.Turns as turns
+use Rattle.choose.specs.declared.Chosen.{Chosen}
 use Rattle.capi.specs.State.{words, optional}
 use Rattle.capi.specs.Choosing.{chosen}
 

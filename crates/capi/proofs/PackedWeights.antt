@@ -3,10 +3,11 @@
 use mathlib.Core.Path.{_≡_}
 use mathlib.Core.List.{List, [], _∷_}
 use Prim.Native.Nat.{ℕ}
-use Rattle.weighted_index.specs.Answers.{answerOfMade, answerOfLooked, answerOfChoice, ended, replied, picked}
+use Rattle.weighted_index.specs.Answers.{answerOfMade, answerOfLooked, ended, replied}
+use Rattle.pick.specs.Answers.{answerOfChoice, picked}
 use Rattle.weighted_index.specs.declared.answer.Outcome.{Outcome}
 use Rattle.weighted_index.specs.declared.answer.Lookup.{Lookup}
-use Rattle.weighted_index.specs.declared.answer.Picked.{Picked}
+use Rattle.pick.specs.declared.Picked.{Picked}
 use Rattle.capi.specs.State.{words, valueOr0, optional}
 use Rattle.capi.specs.Weights as weights
 

@@ -3,14 +3,14 @@ ghost use mathlib.Core.List.{_∷_};
 ghost use mathlib.Core.Path.{_≡_};
 ghost use Rattle.capi.specs.Choosing.{chosen};
 ghost use Rattle.capi.specs.State.{words, generator, optional};
-ghost use Rattle.iterator.specs.Choose.{chooseOf, chooseStableOf};
-ghost use Rattle.iterator.specs.Turns.{answerOfChoice};
+ghost use Rattle.choose.specs.Choose.{chooseOf, chooseStableOf};
+ghost use Rattle.choose.specs.Turns.{answerOfChoice};
 use super::state::load;
 use super::state::store;
-use iterator::choose::Choice;
-use iterator::choose::Chosen;
-use iterator::choose::choose;
-use iterator::choose::choose_stable;
+use choose::Choice;
+use choose::Chosen;
+use choose::choose;
+use choose::choose_stable;
 
 // The words read, and 1 and the item, or 0 and 0 where there is none.
 fn item_out(answer: Choice, read: u64) -> [u64; 3]

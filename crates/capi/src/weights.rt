@@ -2,21 +2,22 @@
 ghost use mathlib.Core.Path.{_≡_};
 ghost use Rattle.capi.specs.State.{generator, valueOr0, optional};
 ghost use Rattle.capi.specs.Weights.{recordOf, tableAfter, made, looked, picked};
-ghost use Rattle.weighted_index.specs.Answers.{answerOfMade, answerOfLooked, answerOfChoice};
-ghost use Rattle.weighted_index.specs.Change.{updateOf};
+ghost use Rattle.weighted_index.specs.Answers.{answerOfMade, answerOfLooked};
+ghost use Rattle.pick.specs.Answers.{answerOfChoice};
+ghost use Rattle.update_weights.specs.Change.{updateOf};
 ghost use Rattle.weighted_index.specs.Lookup.{weightOf};
 ghost use Rattle.weighted_index.specs.New.{newOf};
-ghost use Rattle.weighted_index.specs.Pick.{pickOf};
+ghost use Rattle.pick.specs.Pick.{pickOf};
 use super::state::load;
 use super::state::report;
-use weighted_index::answer::Choice;
+use pick::Choice;
+use pick::sample;
+use update_weights::update_weights;
 use weighted_index::answer::Looked;
 use weighted_index::answer::Made;
 use weighted_index::answer::WeightedIndex;
 use weighted_index::build::new;
-use weighted_index::pick::sample;
 use weighted_index::table::weight;
-use weighted_index::update::update_weights;
 
 // The record with this count and this total: the definition `recordOf`. A total that no record can have becomes 0, which no table has either.
 fn load_table(table: [u64; 2]) -> WeightedIndex

@@ -16,10 +16,10 @@ use Rattle.refusal.specs.declared.Refusal.{Refusal}
 use Rattle.refusal.specs.declared.Refusal.the-variants.{AmountExceedsLength, NoWeights, Overflow, InsufficientNonZero, PlacesNotIncreasing, PlaceOutOfRange, InvalidTable, SliceTooShort, ScratchTooShort, TooLong, InvalidHints, ZeroState, BudgetExhausted}
 use Rattle.refusal.specs.declared.Outcome.the-variants as outcome
 use Rattle.xoshiro256plusplus.specs.declared.Xoshiro256PlusPlus.{Xoshiro256PlusPlus}
-use Rattle.weighted_index.specs.Pick.{pickOf}
-use Rattle.weighted_index.specs.Answers.{picked}
-use Rattle.weighted_index.specs.declared.answer.Choice.the-variants.{Item, Refused}
-use Rattle.weighted_index.specs.declared.answer.Picked.{Picked}
+use Rattle.pick.specs.Pick.{pickOf}
+use Rattle.pick.specs.Answers.{picked}
+use Rattle.pick.specs.declared.Choice.the-variants.{Item, Refused}
+use Rattle.pick.specs.declared.Picked.{Picked}
 use Rattle.weighted_index.specs.declared.answer.WeightedIndex.{WeightedIndex}
 use Rattle.draw.specs.Picks.{Picking, behind, follow, picksOf, Ended}
 

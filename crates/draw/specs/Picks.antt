@@ -7,7 +7,7 @@ use lib.Dec.{eqb}
 use Rattle.refusal.specs.Answer.{answerOf}
 use Rattle.uniform_int.specs.Rejecting.{Drawing}
 use Rattle.xoshiro256plusplus.specs.declared.Xoshiro256PlusPlus.{Xoshiro256PlusPlus}
-use Rattle.weighted_index.specs.Pick.{pickOf}
+use Rattle.pick.specs.Pick.{pickOf}
 use Rattle.weighted_index.specs.declared.answer.WeightedIndex.{WeightedIndex}
 use Rattle.draw.specs.declared.picking.Picks.{Picks}
 

@@ -11,10 +11,10 @@ use super::slices::entries;
 use super::slices::hint_entries;
 use super::words::seed;
 use super::words::size;
+use choose::Choice;
+use choose::Chosen;
 use command_line::decimal::Parsed;
 use command_line::seed::Seed;
-use iterator::choose::Choice;
-use iterator::choose::Chosen;
 use xoshiro256plusplus::Xoshiro256PlusPlus;
 
 // Writes exact hints: at each place how many items remain, and 0 at the last, which is behind all of them.
@@ -61,9 +61,9 @@ fn chosen(
     upper: &[u32],
 ) -> Chosen {
     if o.is_stable {
-        return iterator::choose::choose_stable(rng, items, lower, upper, o.budget);
+        return choose::choose_stable(rng, items, lower, upper, o.budget);
     }
-    iterator::choose::choose(rng, items, lower, upper, o.budget)
+    choose::choose(rng, items, lower, upper, o.budget)
 }
 
 // Answers the item, that there is none, or the refusal.

@@ -15,13 +15,13 @@ use super::words::seed;
 use super::words::size;
 use command_line::decimal::Parsed;
 use command_line::seed::Seed;
+use pick::Choice;
+use pick::Picked;
+use pick::sample;
 use refusal::Outcome;
-use weighted_index::answer::Choice;
 use weighted_index::answer::Made;
-use weighted_index::answer::Picked;
 use weighted_index::answer::WeightedIndex;
 use weighted_index::build::new;
-use weighted_index::pick::sample;
 use xoshiro256plusplus::Xoshiro256PlusPlus;
 
 // How picks end, what is left of the budget, and the generator.

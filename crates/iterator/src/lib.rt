@@ -9,11 +9,7 @@ use reservoir::fill_front;
 use reservoir::replace_slots;
 use xoshiro256plusplus::Xoshiro256PlusPlus;
 
-mod by_hints;
-pub mod choose;
-mod hints;
 mod reservoir;
-mod turns;
 
 // The outcome, the count of slots filled, the words read, and the generator after them.
 pub struct Filled {

@@ -12,8 +12,8 @@ use Rattle.slice.specs.Shuffle.{shuffleShare}
 use Rattle.slice.specs.Shares.{OrderedTail}
 use Rattle.slice.proofs.Shares.{shuffle-shares}
 use Rattle.iterator.proofs.Shares.{reservoir-shares}
-use Rattle.weighted_index.proofs.History.{history-claim}
-use Rattle.weighted_index.proofs.Shares.{pick-shares-32}
+use Rattle.update_weights.proofs.History.{history-claim}
+use Rattle.pick.proofs.Shares.{pick-shares-32}
 use Rattle.shares.specs.EqualShares.{rejectionShare, tailShare, EqualShares}
 
 -- the share of a tail, which the number of items and the amount settle

@@ -18,8 +18,8 @@ use Rattle.slice.specs.Shares.{OrderedTail}
 use Rattle.iterator.specs.Reservoir.{fillOf, fillBounds}
 use Rattle.iterator.specs.Shares.{SetOf}
 use Rattle.weighted_index.specs.Weights.{total}
-use Rattle.weighted_index.specs.History.{Change, History, plainWeights, callsRun, plainRun}
-use Rattle.weighted_index.specs.Shares.{pickShare}
+use Rattle.update_weights.specs.History.{Change, History, plainWeights, callsRun, plainRun}
+use Rattle.pick.specs.Shares.{pickShare}
 use Rattle.weighted_index.specs.declared.answer.WeightedIndex.{WeightedIndex}
 
 -- how many lists of m draws below n give rejection the sample

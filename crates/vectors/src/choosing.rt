@@ -8,10 +8,10 @@ use super::slices::at_most;
 use super::slices::count_up;
 use super::slices::entries;
 use super::text::Numbers;
-use iterator::choose::Choice;
-use iterator::choose::Chosen;
-use iterator::choose::choose;
-use iterator::choose::choose_stable;
+use choose::Choice;
+use choose::Chosen;
+use choose::choose;
+use choose::choose_stable;
 
 // An upper hint that says nothing.
 const NO_UPPER: u64 = 0xffff_ffff;

@@ -12,17 +12,17 @@ use super::hash::hash;
 use super::slices::at_most;
 use super::slices::entries;
 use super::text::Numbers;
-use weighted_index::answer::Choice;
+use pick::Choice;
+use pick::Picked;
+use pick::sample;
+use update_weights::update_weights;
 use weighted_index::answer::Looked;
 use weighted_index::answer::Lookup;
 use weighted_index::answer::Made;
 use weighted_index::answer::Outcome;
-use weighted_index::answer::Picked;
 use weighted_index::answer::WeightedIndex;
 use weighted_index::build::new;
-use weighted_index::pick::sample;
 use weighted_index::table::weight;
-use weighted_index::update::update_weights;
 
 // The number at a place of a line, and 0 behind the last.
 fn number_at(n: Numbers, at: usize) -> u64 {

@@ -3,16 +3,12 @@ use mathlib.Core.List.{List, [], _∷_}
 use Prim.Native.Nat.{ℕ}
 use Rattle.refusal.specs.Answer.{Answer, done, declined}
 use Rattle.refusal.specs.declared.Refusal.{Refusal}
-use Rattle.uniform_int.specs.Rejecting.{Drawing}
 use Rattle.weighted_index.specs.declared.answer.Made.{Made}
 use Rattle.weighted_index.specs.declared.answer.Made.the-variants as made
 use Rattle.weighted_index.specs.declared.answer.Outcome.{Outcome}
 use Rattle.weighted_index.specs.declared.answer.Looked.{Looked}
 use Rattle.weighted_index.specs.declared.answer.Looked.the-variants as looked
 use Rattle.weighted_index.specs.declared.answer.Lookup.{Lookup}
-use Rattle.weighted_index.specs.declared.answer.Choice.{Choice}
-use Rattle.weighted_index.specs.declared.answer.Choice.the-variants as choice
-use Rattle.weighted_index.specs.declared.answer.Picked.{Picked}
 
 -- ---- the number and the values of each case of an answer
 
@@ -26,11 +22,6 @@ abbrev pub answerOfLooked : Looked → Answer
 answerOfLooked (looked.Weight w) = done (w ∷ [])
 answerOfLooked looked.Nothing = done []
 answerOfLooked (looked.Refused why) = declined why
-
--- an item by its index
-abbrev pub answerOfChoice : Choice → Answer
-answerOfChoice (choice.Item i) = done (i ∷ [])
-answerOfChoice (choice.Refused why) = declined why
 
 -- ---- all that can be seen after a call
 
@@ -50,10 +41,6 @@ pub record Making : Type 0 where
 
 abbrev pub ended : Outcome → List ℕ → Making
 ended r sums = record { answer = answerOfMade (r .answer); words = r .words; sums = sums }
-
--- of a pick
-abbrev pub picked : Picked → Drawing
-picked r = record { answer = answerOfChoice (r .answer); words = r .words; rng = r .rng }
 
 -- a refusal reads no word and changes no sum
 unfoldable pub refuses : Refusal → List ℕ → Making

@@ -30,7 +30,7 @@ fn is_rising(sums: &[u32], n: usize, total: u32) -> bool
 }
 
 // The record and the sums are those of no list of weights: the definition `brokenTable`. Reads all its sums.
-pub(crate) fn is_broken(table: WeightedIndex, cumulative_weights: &[u32]) -> bool
+pub fn is_broken(table: WeightedIndex, cumulative_weights: &[u32]) -> bool
     ensures { λ r. ⌜ r ≡ brokenTable table (now («cumulative_weights» .entry)) ⌝ }
 {
     let count = table.count;
@@ -50,7 +50,7 @@ pub(crate) fn is_broken(table: WeightedIndex, cumulative_weights: &[u32]) -> boo
 }
 
 // The weight at a place of a whole table: its running sum less the one before it.
-pub(crate) fn weight_at(table: WeightedIndex, cumulative_weights: &[u32], place: u64) -> u32
+pub fn weight_at(table: WeightedIndex, cumulative_weights: &[u32], place: u64) -> u32
     requires { ⌜ (brokenTable table (now «cumulative_weights») ≡ false) × (place < table .count) ⌝ }
     ensures { λ r. ⌜ r ≡ getD (heldWeights table (now («cumulative_weights» .entry))) place 0 ⌝ }
 {

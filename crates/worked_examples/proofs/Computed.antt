@@ -7,7 +7,7 @@ use Rattle.index.specs.Floyd.{replaced, floydFrom, floydOf}
 use Rattle.increasing_uniform.specs.Chunks.{factors, moreFrom, moreOf, handed, indicesOf}
 use Rattle.slice.specs.Shuffle.{shuffleFrom, shuffleOf}
 use Rattle.weighted_index.specs.Weights.{total, sumsFrom, firstAbove}
-use Rattle.weighted_index.specs.Change as Change
+use Rattle.update_weights.specs.Change as Change
 use Rattle.worked_examples.specs.Table.{drawRow, wordRow, boundRow, sumsRow, table, holds, WorkedExamples}
 
 pub worked-examples : WorkedExamples

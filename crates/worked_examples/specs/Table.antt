@@ -12,7 +12,7 @@ use Rattle.index.specs.Floyd.{floydOf}
 use Rattle.increasing_uniform.specs.Chunks.{factors, moreOf}
 use Rattle.slice.specs.Shuffle.{shuffleOf}
 use Rattle.weighted_index.specs.Weights.{total, sumsFrom, firstAbove}
-use Rattle.weighted_index.specs.Change.{replaced}
+use Rattle.update_weights.specs.Change.{replaced}
 
 pub record Row : Type 0 where
   pub computed : List ℕ

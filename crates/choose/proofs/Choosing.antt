@@ -1,0 +1,18 @@
+-- What is said of the two choices.
+-- Assumes nothing.
+use Rattle.choose.specs.Choosing.{Choosing}
+use Rattle.choose.proofs.ChooseCases.{stable}
+use Rattle.choose.proofs.NoneExactly.{choose-none, stable-none, choose-empty, stable-empty}
+use Rattle.choose.proofs.ChoiceWords.{choose-reads, stable-reads}
+
+pub choosing : Choosing
+choosing =
+    record {
+      stable = λ g items lower upper budget c. stable g items lower upper budget c;
+      choose-none = choose-none;
+      stable-none = stable-none;
+      choose-empty = choose-empty;
+      stable-empty = stable-empty;
+      choose-reads = choose-reads;
+      stable-reads = stable-reads;
+    }

@@ -1,0 +1,76 @@
+-- The stable choice: the Rust's groups, and `choose` with no hints, come to one question for each item in order.
+-- Assumes nothing.
+use mathlib.Core.Path.{_≡_, refl, sym, ap, _∙_}
+use mathlib.Core.Bool.{Bool, true, false, cond}
+use mathlib.Core.List.{List, [], _∷_}
+use Prim.Native.Nat.{ℕ, zero, suc, _+_, _≤_, _<_}
+use native.Mathlib.Numerals.{add-one}
+use native.Mathlib.Omega.{arith}
+use lib.Dec.{ltb, eqb}
+use lib.ListN.{length, drop, getD, drop-of-length-le}
+use lib.Seq.{drop-cons}
+use borrow.Author.Tests.{eqb-true}
+use Rattle.uniform_int.specs.Rejecting.{Drawing}
+use Rattle.coin_flipper.specs.Within.{Coins, Flipping, oneOverWithin}
+use Rattle.coin_flipper.specs.State.{seen, Held}
+use Rattle.coin_flipper.specs.declared.CoinFlipper.{CoinFlipper}
+use Rattle.coin_flipper.proofs.Laws.{held-more}
+use Rattle.choose.specs.Turns.{answerOfChoice, turned, ending, after, given, taking, byCoin}
+use Rattle.choose.specs.Stable.{stableFrom, latest, stableByHints}
+use Rattle.choose.specs.Choose.{turnOf, chooseFrom}
+use Rattle.choose.specs.declared.Choice.{Choice}
+use Rattle.choose.specs.declared.Choice.the-variants.{Nothing}
+use Rattle.choose.specs.declared.turns.Turn.{Turn}
+use Rattle.choose.proofs.ChoiceTurns.{holds, above-zero}
+
+-- ---- the Rust's groups
+
+-- where the item behind is asked for, the group's pick counts as held
+module _ (budget n x : ℕ) (s : Coins) (picked held : List ℕ) where
+  merged : (f g : List ℕ → Coins → Drawing) → ((c : List ℕ) (t : Coins) → f c t ≡ g (latest c held) t)
+      → after (byCoin budget n x picked s) f ≡ after (byCoin budget n x (latest picked held) s) g
+  unfolding byCoin
+  merged f g e = go (oneOverWithin n budget s .answer .values)
+    where
+      go : (vs : List ℕ)
+          → after (record { answer = given vs (taking x picked); coins = oneOverWithin n budget s .coins }) f
+          ≡ after (record { answer = given vs (taking x (latest picked held)); coins = oneOverWithin n budget s .coins }) g
+      go [] = refl
+      go (zero ∷ vs) = e picked (oneOverWithin n budget s .coins)
+      go (suc v ∷ vs) = e (x ∷ []) (oneOverWithin n budget s .coins)
+
+  alike : (f g : List ℕ → Coins → Drawing) → ((c : List ℕ) (t : Coins) → f c t ≡ g c t) → after (byCoin budget n x held s) f ≡ after (byCoin budget n x held s) g
+  unfolding byCoin
+  alike f g e = go (oneOverWithin n budget s .answer .values)
+    where
+      go : (vs : List ℕ)
+          → after (record { answer = given vs (taking x held); coins = oneOverWithin n budget s .coins }) f
+          ≡ after (record { answer = given vs (taking x held); coins = oneOverWithin n budget s .coins }) g
+      go [] = refl
+      go (v ∷ vs) = e (taking x held v) (oneOverWithin n budget s .coins)
+
+-- whatever the hints are, they come to one question for each item in order
+pub in-order : (budget : ℕ) (lower items : List ℕ) (ahead p : ℕ) (picked held : List ℕ) (s : Coins)
+    → stableByHints budget lower items ahead p picked held s ≡ stableFrom budget items p (latest picked held) s
+unfolding stableByHints stableFrom
+in-order budget lower [] ahead p picked held s = refl
+in-order budget lower (x ∷ xs) zero p picked held s =
+    go (ltb 1 (getD lower p 0))
+    (merged budget (suc p) x s picked held _ _ (λ c t. in-order budget lower xs (getD lower p 0) (suc p) c held t))
+    (alike budget (suc p) x s picked (latest picked held) _ _ (λ h t. in-order budget lower xs zero (suc p) [] h t))
+  where
+    go : (b : Bool) {d e f : Drawing} → d ≡ f → e ≡ f → cond b d e ≡ f
+    go true i j = i
+    go false i j = j
+in-order budget lower (x ∷ xs) (suc zero) p picked held s =
+    alike budget (suc p) x s picked (latest picked held) _ _ (λ h t. in-order budget lower xs zero (suc p) [] h t)
+in-order budget lower (x ∷ xs) (suc (suc k)) p picked held s =
+    merged budget (suc p) x s picked held _ _ (λ c t. in-order budget lower xs (suc k) (suc p) c held t)
+
+-- ---- no hints
+
+-- with no hints a coin decides at every place
+pub unhinted : (budget : ℕ) (items : List ℕ) (p : ℕ) (held : List ℕ) (s : Coins) → chooseFrom budget [] [] items 0 p held s ≡ stableFrom budget items p held s
+unfolding chooseFrom stableFrom turnOf
+unhinted budget [] p held s = refl
+unhinted budget (x ∷ xs) p held s = alike budget (suc p) x s held held _ _ (λ h t. unhinted budget xs (suc p) h t)

@@ -1,0 +1,107 @@
+// The choice that the hints guide.
+ghost use mathlib.Core.Path.{_≡_};
+ghost use mathlib.Core.List.{[]};
+ghost use Prim.Native.Nat.{suc, _-_, _^_, _≤_};
+ghost use lib.ListN.{length, getD};
+ghost use Rattle.coin_flipper.specs.Within.{start};
+ghost use Rattle.choose.specs.Choose.{chooseFrom, drawnLast, exactly};
+ghost use Rattle.choose.specs.Hints.{LowerHolds};
+ghost use Rattle.choose.specs.Turns.{chosen};
+use super::Choice;
+use super::Chosen;
+use super::closing;
+use super::ended;
+use super::turns::goes_on;
+use super::turns::turn_at;
+use coin_flipper::CoinFlipper;
+use refusal::Refusal;
+use uniform_int::Draw;
+use uniform_int::random_range_within;
+use xoshiro256plusplus::Xoshiro256PlusPlus;
+
+// The count of the items is known: none, the one, or one draw. The definition is `exactly`.
+pub(crate) fn choose_exact(rng: Xoshiro256PlusPlus, items: &[u32], budget: u64) -> Chosen
+    requires { ⌜ length (now items) ≤ 2 ^ 32 - 2 ⌝ }
+    ensures { λ r. ⌜ chosen r ≡ exactly budget (now (items .entry)) (length (now (items .entry))) rng ⌝ }
+{
+    let count = items.len();
+    if count == 0 {
+        return ended(Choice::Nothing, 0, rng);
+    }
+    if count == 1 {
+        let only = items[0];
+        return ended(Choice::Item(only), 0, rng);
+    }
+    let range = count as u32;
+    let drawn = random_range_within(rng, range, 0, budget);
+    let after = drawn.rng;
+    let words = drawn.words;
+    let draw = drawn.draw;
+    let Draw::Value(ix) = draw else {
+        return ended(Choice::Refused(Refusal::BudgetExhausted), words, after);
+    };
+    let place = ix as usize;
+    let item = items[place];
+    ended(Choice::Item(item), words, after)
+}
+
+// Whether a turn was a draw for all the items that remain, which is so where both hints agree: the definition `drawnLast`.
+fn drawn_last(least: u32, most: u32) -> bool
+    ensures { λ r. ⌜ r ≡ drawnLast least most ⌝ }
+{
+    least > 1 && most == least
+}
+
+// How many items a turn is for: so many as are sure to remain, and at least one.
+fn turn_length(least: u32) -> usize
+    ensures { λ r. ⌜ r ≡ suc (least - 1) ⌝ }
+{
+    if least > 1 {
+        return least as usize;
+    }
+    1
+}
+
+// The hint at a place, and 0 where the list has none.
+fn hint_at(hints: &[u32], place: usize) -> u32
+    ensures { λ r. ⌜ r ≡ getD (now (hints .entry)) place 0 ⌝ }
+{
+    if place < hints.len() {
+        return hints[place];
+    }
+    0
+}
+
+// Turn by turn, as the lower hints allow: the definition `chooseFrom`. With no hints it is one question for each item in order. It is one loop
+// for both choosers, so that the coins are flipped in it and not in a call.
+pub(crate) fn choose_by_hints(
+    rng: Xoshiro256PlusPlus,
+    items: &[u32],
+    lower: &[u32],
+    upper: &[u32],
+    budget: u64,
+) -> Chosen
+    requires { ⌜ (length (now items) ≤ 2 ^ 32 - 2) × (LowerHolds (length (now items)) (now lower)) ⌝ }
+    ensures { λ r. ⌜ chosen r ≡ chooseFrom budget (now (lower .entry)) (now (upper .entry)) (now (items .entry)) 0 0 [] (start rng) ⌝ }
+{
+    let mut flipper = CoinFlipper::new(rng);
+    let mut held = Choice::Nothing;
+    let mut consumed: usize = 0;
+    while consumed < items.len() {
+        let least = hint_at(lower, consumed);
+        let most = hint_at(upper, consumed);
+        let turn = turn_at(flipper, held, items, consumed, least, budget);
+        let next = turn.flipper;
+        let holds = turn.held;
+        if !goes_on(holds) {
+            return closing(holds, next);
+        }
+        if drawn_last(least, most) {
+            return closing(holds, next);
+        }
+        flipper = next;
+        held = holds;
+        consumed += turn_length(least);
+    }
+    closing(held, flipper)
+}

@@ -1,0 +1,106 @@
+-- The definition of `update_weights`, one law for each of its cases.
+-- Assumes nothing.
+use mathlib.Core.Path.{_≡_, refl, sym, ap, _∙_}
+use mathlib.Core.Bool.{Bool, true, false}
+use mathlib.Core.List.{List, [], _∷_}
+use mathlib.Core.Option.{Option, none, some}
+use Prim.Native.Nat.{ℕ, _≤_, _<_}
+use native.Mathlib.Omega.{arith}
+use lib.Dec.{eqb}
+use lib.ListN.{length, getD}
+use borrow.Author.Tests.{lt-ltb, le-ltb, eq-eqb, ne-eqb, eqb-true, eqb-false}
+use Rattle.refusal.specs.Answer.{Answer, done, declined}
+use Rattle.refusal.specs.declared.Refusal.{Refusal}
+use Rattle.refusal.specs.declared.Refusal.the-variants.{InvalidTable, SliceTooShort, TooLong}
+use Rattle.weighted_index.specs.Weights.{mostWeights, total}
+use Rattle.weighted_index.specs.Tables.{heldSums, brokenTable, heldWeights}
+use Rattle.weighted_index.specs.Answers.{refuses}
+use Rattle.weighted_index.specs.New.{makes}
+use Rattle.update_weights.specs.Change.{replaced, itemsRefusal, listsRefusal, settled, updateOf, answerOfChecked, checkedAs, checkOf}
+use Rattle.weighted_index.specs.declared.answer.WeightedIndex.{WeightedIndex}
+use Rattle.update_weights.specs.declared.Checked.{Checked}
+use Rattle.update_weights.specs.declared.Checked.the-variants.{Total, Refused}
+use Rattle.weighted_index.proofs.Whole.{whole, held-length}
+use Rattle.update_weights.proofs.Items.{refused-none, replaced-length}
+
+-- ---- the two lists
+
+module _ (ws ps vs : List ℕ) where
+  pub lists-differ : (length ps ≡ length vs → ⊥) → listsRefusal ws ps vs ≡ some SliceTooShort
+  unfolding listsRefusal
+  lists-differ ne = rw (ne-eqb (length ps) (length vs) ne)
+
+  pub lists-agree : length ps ≡ length vs → listsRefusal ws ps vs ≡ itemsRefusal ws 0 ps vs
+  unfolding listsRefusal
+  lists-agree e = rw (eq-eqb (length ps) (length vs) e)
+
+  pub lists-passed : listsRefusal ws ps vs ≡ none → (length ps ≡ length vs) × (itemsRefusal ws 0 ps vs ≡ none)
+  lists-passed e = go (eqb (length ps) (length vs)) refl
+    where
+      go : (b : Bool) → eqb (length ps) (length vs) ≡ b → (length ps ≡ length vs) × (itemsRefusal ws 0 ps vs ≡ none)
+      go true q = let h = eqb-true (length ps) (length vs) q in (h, sym (lists-agree h) ∙ e)
+      go false q = absurd (refused-none (sym (lists-differ (eqb-false (length ps) (length vs) q)) ∙ e))
+
+-- ---- what the items' checks answer
+
+refused-end : (o : Option Refusal) (n : ℕ) (why : Refusal) (ws l : List ℕ) → declined why ≡ checkedAs o n → settled o ws l ≡ refuses why l
+unfolding refuses
+refused-end none n why ws l e = let z : _≡_ {A = ℕ} 0 1 = ap (λ (a : Answer). length (a .values)) e in absurd (omega arith)
+refused-end (some y) n why ws l e = ap (λ (a : Answer). record { answer = a; words = 0; sums = l }) (sym e)
+
+accepted-end : (o : Option Refusal) (n m : ℕ) → done (m ∷ []) ≡ checkedAs o n → (o ≡ none) × (n ≡ m)
+accepted-end none n m e = (refl, sym (ap (λ (a : Answer). getD (a .values) 0 0) e))
+accepted-end (some y) n m e = let z : _≡_ {A = ℕ} 1 0 = ap (λ (a : Answer). length (a .values)) e in absurd (omega arith)
+
+pub items-accepted : (ws ps vs : List ℕ) (r : Checked) (m : ℕ) → answerOfChecked r ≡ checkOf ws ps vs → r ≡ Total m
+    → (itemsRefusal ws 0 ps vs ≡ none) × (total (replaced ws ps vs) ≡ m)
+unfolding checkOf
+items-accepted ws ps vs r m e q = accepted-end (itemsRefusal ws 0 ps vs) (total (replaced ws ps vs)) m (sym (ap answerOfChecked q) ∙ e)
+
+-- ---- the call
+
+module _ (t : WeightedIndex) (s ps vs : List ℕ) where
+  pub too-long : mostWeights < t .count → updateOf t s ps vs ≡ refuses TooLong s
+  unfolding updateOf
+  too-long h = rw (lt-ltb mostWeights (t .count) h)
+
+  module _ (h : t .count ≤ mostWeights) where
+    pub list-too-long : mostWeights < length vs → updateOf t s ps vs ≡ refuses TooLong s
+    unfolding updateOf
+    list-too-long k = rw (le-ltb mostWeights (t .count) h, lt-ltb mostWeights (length vs) k)
+
+    module _ (k : length vs ≤ mostWeights) where
+      pub invalid : brokenTable t s ≡ true → updateOf t s ps vs ≡ refuses InvalidTable s
+      unfolding updateOf
+      invalid e = rw (le-ltb mostWeights (t .count) h, le-ltb mostWeights (length vs) k, e)
+
+      module _ (w : brokenTable t s ≡ false) where
+        abbrev held : List ℕ
+        held = heldWeights t s
+
+        pub goes : updateOf t s ps vs ≡ settled (listsRefusal held ps vs) (replaced held ps vs) s
+        unfolding updateOf
+        goes = rw (le-ltb mostWeights (t .count) h, le-ltb mostWeights (length vs) k, w)
+
+        pub too-short : (length ps ≡ length vs → ⊥) → updateOf t s ps vs ≡ refuses SliceTooShort s
+        too-short ne = goes ∙ rw (lists-differ held ps vs ne)
+
+        module _ (e : length ps ≡ length vs) where
+          pub item-refused : (r : Checked) (why : Refusal) → answerOfChecked r ≡ checkOf held ps vs → r ≡ Refused why → updateOf t s ps vs ≡ refuses why s
+          unfolding checkOf
+          item-refused r why f q =
+              goes
+              ∙ rw (lists-agree held ps vs e)
+              (refused-end (itemsRefusal held 0 ps vs) (total (replaced held ps vs)) why (replaced held ps vs) s (sym (ap answerOfChecked q) ∙ f))
+
+          pub all-accepted : itemsRefusal held 0 ps vs ≡ none → updateOf t s ps vs ≡ makes (replaced held ps vs) s
+          all-accepted q = goes ∙ rw (lists-agree held ps vs e ∙ q)
+
+          size : length (replaced held ps vs) ≡ t .count
+          size = replaced-length held ps vs ∙ held-length t s (whole t s w)
+
+          -- as the code leaves it: the new total m, and s′ with the new sums
+          pub changed : (m : ℕ) (s′ : List ℕ) → itemsRefusal held 0 ps vs ≡ none → total (replaced held ps vs) ≡ m → s′ ≡ heldSums (replaced held ps vs) s
+              → updateOf t s ps vs ≡ record { answer = done (t .count ∷ m ∷ []); words = 0; sums = s′ }
+          unfolding makes
+          changed m s′ q n f = all-accepted q ∙ rw (size, n, f)
