@@ -12,7 +12,7 @@ use Rattle.slice.specs.Shuffled as Shuffle
 use Rattle.slice.specs.declared.Shuffled.{Shuffled}
 use Rattle.iterator.specs.Fill as Fill
 use Rattle.iterator.specs.declared.Filled.{Filled}
-use Rattle.capi.specs.State.{words}
+use Rattle.boundary.specs.State.{words}
 use Rattle.capi.specs.Sampling.{sampled}
 use Rattle.capi.specs.Shuffling.{shuffled}
 use Rattle.capi.specs.Filling.{filled}

@@ -5,7 +5,7 @@ use mathlib.Core.List.{List, _∷_}
 use Prim.Native.Nat.{ℕ}
 use Rattle.choose.specs.Turns as turns
 use Rattle.choose.specs.declared.Chosen.{Chosen}
-use Rattle.capi.specs.State.{words, optional}
+use Rattle.boundary.specs.State.{words, optional}
 use Rattle.capi.specs.Choosing.{chosen}
 
 pub packed-choice : (number : ℕ) (state out : List ℕ) (c : Chosen) → number ≡ turns.answerOfChoice (c .answer) .number → state ≡ words (c .rng)

@@ -8,8 +8,8 @@ use Rattle.pick.specs.Answers.{answerOfChoice, picked}
 use Rattle.weighted_index.specs.declared.answer.Outcome.{Outcome}
 use Rattle.weighted_index.specs.declared.answer.Lookup.{Lookup}
 use Rattle.pick.specs.declared.Picked.{Picked}
-use Rattle.capi.specs.State.{words, valueOr0, optional}
-use Rattle.capi.specs.Weights as weights
+use Rattle.boundary.specs.State.{words, valueOr0, optional}
+use Rattle.boundary.specs.Weights as weights
 
 pub packed-made : (number : ℕ) (table before : List ℕ) (m : Outcome) (sums : List ℕ) → number ≡ answerOfMade (m .answer) .number → table ≡ weights.tableAfter (answerOfMade (m .answer)) before
     → record { number = number; table = table; «cumulative_weights» = sums } ≡ weights.made before (ended m sums)

@@ -5,7 +5,7 @@ use mathlib.Core.List.{List, [], _∷_}
 use Prim.Native.Nat.{ℕ}
 use Rattle.rng_by_ref.specs.Lending as lending
 use Rattle.rng_by_ref.specs.declared.Stepped.{Stepped}
-use Rattle.capi.specs.State.{words, valueOr0}
+use Rattle.boundary.specs.State.{words, valueOr0}
 use Rattle.capi.specs.Lending.{lent}
 
 pub packed-word : (number : ℕ) (state out : List ℕ) (s : Stepped) (value : ℕ) → number ≡ lending.answerOf (s .answer) .number → state ≡ words (s .rng)

@@ -1,7 +1,7 @@
 -- What `gapyndura_choose` and `gapyndura_choose_stable` write.
 use mathlib.Core.List.{_∷_}
 use Rattle.uniform_int.specs.Rejecting.{Drawing}
-use Rattle.capi.specs.State.{words, Drawn, optional}
+use Rattle.boundary.specs.State.{words, Drawn, optional}
 
 -- the number of the answer, the generator, and the words read, 1 and the item, or 0 and 0 where there is none
 unfoldable pub chosen : Drawing → Drawn

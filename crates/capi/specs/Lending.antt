@@ -1,7 +1,7 @@
 -- What `gapyndura_next_u32` writes.
 use mathlib.Core.List.{[], _∷_}
 use Rattle.rng_by_ref.specs.Lending.{Lending}
-use Rattle.capi.specs.State.{words, Drawn, valueOr0}
+use Rattle.boundary.specs.State.{words, Drawn, valueOr0}
 
 -- the number of the answer, the generator, and the words read and then the word, which is 0 on a refusal
 unfoldable pub lent : Lending → Drawn

@@ -2,7 +2,7 @@
 use mathlib.Core.List.{List, _∷_}
 use Prim.Native.Nat.{ℕ}
 use Rattle.index.specs.Sample.{Sampling}
-use Rattle.capi.specs.State.{words}
+use Rattle.boundary.specs.State.{words}
 
 -- what it returns, and what the caller's memory then holds
 pub record Sampled : Type 0 where

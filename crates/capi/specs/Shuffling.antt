@@ -2,7 +2,7 @@
 use mathlib.Core.List.{List, _∷_}
 use Prim.Native.Nat.{ℕ}
 use Rattle.slice.specs.Shuffled.{Shuffling}
-use Rattle.capi.specs.State.{words}
+use Rattle.boundary.specs.State.{words}
 
 -- what the call returns, and what the caller's memory then holds
 pub record Shuffled : Type 0 where

@@ -1,10 +1,10 @@
 // The reservoir.
 ghost use mathlib.Core.Path.{_≡_};
 ghost use Rattle.capi.specs.Filling.{filled};
-ghost use Rattle.capi.specs.State.{generator};
+ghost use Rattle.boundary.specs.State.{generator};
 ghost use Rattle.iterator.specs.Fill.{sampleFillOf};
-use super::state::load;
-use super::state::report;
+use boundary::state::load;
+use boundary::state::report;
 use iterator::sample_fill;
 
 // `sample_fill` for C: the definition `sampleFillOf`, written out as `filled` says.

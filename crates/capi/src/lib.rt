@@ -6,5 +6,4 @@ mod lending;
 mod sampling;
 mod seeding;
 mod shuffling;
-mod state;
 mod weights;

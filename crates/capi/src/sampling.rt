@@ -1,10 +1,10 @@
 // Samples of distinct indices.
 ghost use mathlib.Core.Path.{_≡_};
 ghost use Rattle.capi.specs.Sampling.{sampled};
-ghost use Rattle.capi.specs.State.{generator};
+ghost use Rattle.boundary.specs.State.{generator};
 ghost use Rattle.index.specs.Sample.{sampleOf};
-use super::state::load;
-use super::state::report;
+use boundary::state::load;
+use boundary::state::report;
 use index::sample;
 
 // `sample` for C: the definition `sampleOf`, written out as `sampled` says.

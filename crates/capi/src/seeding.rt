@@ -1,8 +1,8 @@
 // The two seedings, which never decline and answer nothing. All four words of `state` are written, whatever they were.
 ghost use mathlib.Core.Path.{_≡_};
-ghost use Rattle.capi.specs.State.{words};
+ghost use Rattle.boundary.specs.State.{words};
 ghost use Rattle.xoshiro256plusplus.specs.Seed.{seeded, fromSeed};
-use super::state::store;
+use boundary::state::store;
 use xoshiro256plusplus::Xoshiro256PlusPlus;
 
 // Writes the generator of 32 bytes to `state`: the definition `fromSeed`.

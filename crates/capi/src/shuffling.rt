@@ -1,10 +1,10 @@
 // Shuffles of a slice.
 ghost use mathlib.Core.Path.{_≡_};
 ghost use Rattle.capi.specs.Shuffling.{shuffled};
-ghost use Rattle.capi.specs.State.{generator};
+ghost use Rattle.boundary.specs.State.{generator};
 ghost use Rattle.slice.specs.Shuffled.{partialShuffleOf, wholeShuffleOf};
-use super::state::load;
-use super::state::report;
+use boundary::state::load;
+use boundary::state::report;
 use slice::partial_shuffle;
 use slice::shuffle;
 

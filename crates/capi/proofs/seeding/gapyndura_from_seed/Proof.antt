@@ -1,6 +1,6 @@
 use mathlib.Core.Path.{ap, _∙_}
 use borrow.Author.Needs.{needs}
-use Rattle.capi.specs.State.{words}
+use Rattle.boundary.specs.State.{words}
 use Rattle.capi.proofs.seeding.gapyndura_from_seed.Statement.{statement}
 use Rattle.capi.proofs.seeding.gapyndura_from_seed.Tie as tie
 

@@ -1,6 +1,6 @@
 -- `gapyndura_weights_pick` meets its contract. Assumes nothing.
 use mathlib.Core.Path.{ap, _∙_}
-use Rattle.capi.specs.Weights.{picked}
+use Rattle.boundary.specs.Weights.{picked}
 use Rattle.capi.proofs.PackedWeights.{packed-pick}
 use borrow.Author.Needs.{needs}
 use Rattle.capi.proofs.weights.gapyndura_weights_pick.Statement.{statement}

@@ -1,6 +1,6 @@
 -- `gapyndura_weights_update` meets its contract. Assumes nothing.
 use mathlib.Core.Path.{ap, _∙_}
-use Rattle.capi.specs.Weights.{made}
+use Rattle.boundary.specs.Weights.{made}
 use Rattle.capi.proofs.PackedWeights.{packed-made}
 use borrow.Author.Needs.{needs}
 use Rattle.capi.proofs.weights.gapyndura_weights_update.Statement.{statement}

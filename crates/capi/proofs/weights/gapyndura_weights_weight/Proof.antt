@@ -1,6 +1,6 @@
 -- `gapyndura_weights_weight` meets its contract. Assumes nothing.
 use mathlib.Core.Path.{ap, _∙_}
-use Rattle.capi.specs.Weights.{looked}
+use Rattle.boundary.specs.Weights.{looked}
 use Rattle.capi.proofs.PackedWeights.{packed-looked}
 use borrow.Author.Needs.{needs}
 use Rattle.capi.proofs.weights.gapyndura_weights_weight.Statement.{statement}

@@ -1,9 +1,9 @@
 -- `load` meets its contract. Assumes nothing.
 use mathlib.Core.Path.{refl}
-use Rattle.capi.specs.State.{generator}
+use Rattle.boundary.specs.State.{generator}
 use borrow.Author.Needs.{needs}
-use Rattle.capi.proofs.state.load.Statement.{statement}
-use Rattle.capi.proofs.state.load.Tie as tie
+use Rattle.boundary.proofs.state.load.Statement.{statement}
+use Rattle.boundary.proofs.state.load.Tie as tie
 
 array-read-t5 : tie.Need-array-read-t5
 array-read-t5 c = search needs

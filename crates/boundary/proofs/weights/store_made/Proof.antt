@@ -1,8 +1,8 @@
 -- `store_made` meets its contract. Assumes nothing.
 use Rattle.refusal.proofs.Outcomes.{refused-number}
 use borrow.Author.Needs.{needs}
-use Rattle.capi.proofs.weights.store_made.Statement.{statement}
-use Rattle.capi.proofs.weights.store_made.Tie as tie
+use Rattle.boundary.proofs.weights.store_made.Statement.{statement}
+use Rattle.boundary.proofs.weights.store_made.Tie as tie
 
 enum-known-answer : tie.Need-enum-known-answer
 enum-known-answer c = search needs

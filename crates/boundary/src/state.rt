@@ -1,18 +1,18 @@
 // A generator as C sees it: an array of its four words, s0 first.
 ghost use mathlib.Core.List.{[], _∷_};
 ghost use mathlib.Core.Path.{_≡_};
-ghost use Rattle.capi.specs.State.{words, generator};
+ghost use Rattle.boundary.specs.State.{words, generator};
 use xoshiro256plusplus::Xoshiro256PlusPlus;
 
 // Writes the generator's four words: the definition `words`.
-pub(crate) fn store(rng: Xoshiro256PlusPlus, state: &mut [u64; 4])
+pub fn store(rng: Xoshiro256PlusPlus, state: &mut [u64; 4])
     ensures { λ _. ⌜ now (state .exit) ≡ words rng ⌝ }
 {
     *state = [rng.s0, rng.s1, rng.s2, rng.s3];
 }
 
 // The generator with these four words: the definition `generator`.
-pub(crate) fn load(state: [u64; 4]) -> Xoshiro256PlusPlus
+pub fn load(state: [u64; 4]) -> Xoshiro256PlusPlus
     ensures { λ r. ⌜ r ≡ generator state ⌝ }
 {
     Xoshiro256PlusPlus {
@@ -24,7 +24,7 @@ pub(crate) fn load(state: [u64; 4]) -> Xoshiro256PlusPlus
 }
 
 // Writes what every call that draws writes: the generator afterwards, and in `out` the words read and the answer's value.
-pub(crate) fn report(
+pub fn report(
     rng: Xoshiro256PlusPlus,
     read: u64,
     value: u64,

@@ -1,7 +1,7 @@
 -- `store_looked` meets its contract. Assumes nothing.
 use borrow.Author.Needs.{needs}
-use Rattle.capi.proofs.weights.store_looked.Statement.{statement}
-use Rattle.capi.proofs.weights.store_looked.Tie as tie
+use Rattle.boundary.proofs.weights.store_looked.Statement.{statement}
+use Rattle.boundary.proofs.weights.store_looked.Tie as tie
 
 enum-known-answer : tie.Need-enum-known-answer
 enum-known-answer c = search needs

@@ -1,7 +1,7 @@
 use mathlib.Core.Path.{refl}
-use Rattle.capi.specs.State.{words}
-use Rattle.capi.proofs.state.store.Statement.{statement}
-use Rattle.capi.proofs.state.store.Tie as tie
+use Rattle.boundary.specs.State.{words}
+use Rattle.boundary.proofs.state.store.Statement.{statement}
+use Rattle.boundary.proofs.state.store.Tie as tie
 
 returns : tie.Need-returns
 unfolding words

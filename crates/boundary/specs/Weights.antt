@@ -11,7 +11,7 @@ use Rattle.weighted_index.specs.Answers.{Reply, Making}
 use Rattle.weighted_index.specs.Tables.{brokenTable}
 use Rattle.weighted_index.specs.Weights.{mostTotal}
 use Rattle.weighted_index.specs.declared.answer.WeightedIndex.{WeightedIndex}
-use Rattle.capi.specs.State.{words, Drawn, valueOr0, optional}
+use Rattle.boundary.specs.State.{words, Drawn, valueOr0, optional}
 
 -- ---- what a record is
 

@@ -9,7 +9,7 @@ use borrow.Author.Tests.{lt-ltb, le-ltb}
 use Rattle.weighted_index.specs.Weights.{mostTotal}
 use Rattle.weighted_index.specs.Tables.{brokenTable}
 use Rattle.weighted_index.proofs.Whole.{broken}
-use Rattle.capi.specs.Weights.{recordOf, totalOf, NoRecord}
+use Rattle.boundary.specs.Weights.{recordOf, totalOf, NoRecord}
 
 total-lost : (count n : ℕ) → mostTotal < n → recordOf (count ∷ n ∷ []) ≡ record { count = count; «total_weight» = 0 }
 unfolding recordOf totalOf

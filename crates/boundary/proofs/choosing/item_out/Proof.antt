@@ -1,7 +1,7 @@
 -- `item_out` meets its contract. Assumes nothing.
 use borrow.Author.Needs.{needs}
-use Rattle.capi.proofs.choosing.item_out.Statement.{statement}
-use Rattle.capi.proofs.choosing.item_out.Tie as tie
+use Rattle.boundary.proofs.choosing.item_out.Statement.{statement}
+use Rattle.boundary.proofs.choosing.item_out.Tie as tie
 
 enum-known-answer : tie.Need-enum-known-answer
 enum-known-answer c = search needs

@@ -2,10 +2,10 @@
 use lib.ListN.{getD}
 use borrow.Author.Tests.{lt-ltb, le-ltb}
 use Rattle.weighted_index.specs.Weights.{mostTotal}
-use Rattle.capi.specs.Weights.{recordOf, totalOf}
+use Rattle.boundary.specs.Weights.{recordOf, totalOf}
 use borrow.Author.Needs.{needs}
-use Rattle.capi.proofs.weights.load_table.Statement.{statement}
-use Rattle.capi.proofs.weights.load_table.Tie as tie
+use Rattle.boundary.proofs.weights.load_table.Statement.{statement}
+use Rattle.boundary.proofs.weights.load_table.Tie as tie
 
 array-read-count : tie.Need-array-read-count
 array-read-count c = search needs
