@@ -1,7 +1,8 @@
 // A pick by weight.
 ghost use mathlib.Core.Path.{_≡_};
-ghost use mathlib.Core.Bool.{false, true};
+ghost use mathlib.Core.Bool.{false, true, cond};
 ghost use Prim.Native.Nat.{_≤_};
+ghost use lib.Dec.{leb};
 ghost use lib.ListN.{length, take};
 ghost use Rattle.uniform_int.specs.Rejecting.{rejecting};
 ghost use Rattle.weighted_index.specs.Weights.{mostWeights, firstAbove};
@@ -31,22 +32,31 @@ pub struct Picked {
     pub rng: Xoshiro256PlusPlus,
 }
 
+// The step n where a sum is at most c, and else 0. No test decides, since the processor would guess that of a drawn number wrong half the
+// time, and then start again: 2^32 + c - sum has a 33rd bit exactly where the sum is at most c.
+fn step_over(n: usize, sum: u32, c: u32) -> usize
+    ensures { λ r. ⌜ (r ≡ cond (leb sum c) n 0) × (r ≤ n) ⌝ }
+{
+    let rest = 0x1_0000_0000 + c as u64 - sum as u64;
+    n * (rest >> 32) as usize
+}
+
 // The first index of the `n` sums, which never fall, that is above `c`, or `n`: a binary search, which finds what `firstAbove` does.
 fn partition_point(sums: &[u32], n: usize, total: u32, c: u32) -> usize
     requires { ⌜ (n ≤ length (now sums)) × (rises 0 (take n (now sums)) total ≡ true) ⌝ }
     ensures { λ r. ⌜ (r ≡ firstAbove c (take n (now (sums .entry)))) × (r ≤ n) ⌝ }
 {
     let mut low: usize = 0;
-    let mut high = n;
-    while low < high {
-        let mid = low + (high - low) / 2;
-        if sums[mid] <= c {
-            low = mid + 1;
-        } else {
-            high = mid;
-        }
+    let mut size = n;
+    while size > 1 {
+        let half = size / 2;
+        low += step_over(half, sums[low + half], c);
+        size -= half;
     }
-    low
+    if size == 0 {
+        return low;
+    }
+    low + step_over(1, sums[low], c)
 }
 
 // A pick from a table that is known to be whole: `sample` without the check that reads all sums. Cost: a binary search of the sums.

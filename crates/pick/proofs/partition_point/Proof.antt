@@ -1,69 +1,84 @@
--- `partition_point` meets its contract: the place that is sought stays between low and high. Assumes nothing.
-use Prim.Native.Nat.{ℕ, _+_, _-_, _/_, _≤_}
+-- `partition_point` meets its contract: the place that is sought stays within size of low. Assumes nothing.
+use Prim.Native.Nat.{_+_, _-_, _/_, _≤_}
 use native.Mathlib.Omega.{arith}
 use denote.Ref.{now}
 use lib.ListN.{take}
 use lib.Seq.{length-take-le, getD-take}
 use Rattle.weighted_index.specs.Weights.{firstAbove}
-use Rattle.pick.proofs.Search.{first-most, first-upper, first-lower}
+use Rattle.pick.proofs.Search.{first-most, within-step, last-step}
 use borrow.Author.Needs.{needs}
 use Rattle.pick.proofs.partition_point.Statement.{statement}
 use Rattle.pick.proofs.partition_point.Tie as tie
 
 abbrev Inv-loop : tie.InvT-loop
-Inv-loop sums n total c low₀ high₀ low high = (low ≤ firstAbove c (take n sums)) × (firstAbove c (take n sums) ≤ high) × (high ≤ n)
+Inv-loop sums n total c low₀ size₀ low size = (low ≤ firstAbove c (take n sums)) × (firstAbove c (take n sums) ≤ low + size) × (low + size ≤ n)
 
 abbrev μ-loop : tie.MeasureT-loop
-μ-loop sums n total c low₀ high₀ low high = high - low
+μ-loop sums n total c low₀ size₀ low size = size
 
 loop-holds : tie.Need-loop-holds Inv-loop μ-loop
 loop-holds c =
-    let a = c .args in
+    let a = c .before .args in
     let full = length-take-le (a .n) (now (a .sums)) (omega arith) in
     (omega arith, omega (arith, first-most (a .c) (take (a .n) (now (a .sums)))), omega arith)
 
-sub-mid : tie.Need-sub-mid Inv-loop μ-loop
-sub-mid c = search needs
+add-step-over : tie.Need-add-step-over Inv-loop μ-loop
+add-step-over c = search needs
 
-add-mid : tie.Need-add-mid Inv-loop μ-loop
-add-mid c = search needs
+mul-step-over : tie.Need-mul-step-over Inv-loop μ-loop
+mul-step-over c = search needs
 
-mul-if1 : tie.Need-mul-if1 Inv-loop μ-loop
-mul-if1 c = search needs
+shared-slice-read-step-over : tie.Need-shared-slice-read-step-over Inv-loop μ-loop
+shared-slice-read-step-over c = search needs
 
-shared-slice-read-if1 : tie.Need-shared-slice-read-if1 Inv-loop μ-loop
-shared-slice-read-if1 c = search needs
+step-over-requires : tie.Need-step-over-requires Inv-loop μ-loop
+step-over-requires c κs = search needs
 
 add-low : tie.Need-add-low Inv-loop μ-loop
 add-low c = search needs
+
+sub-size : tie.Need-sub-size Inv-loop μ-loop
+sub-size c = search needs
 
 loop-less : tie.Need-loop-less Inv-loop μ-loop
 loop-less c = search needs
 
 loop-again : tie.Need-loop-again Inv-loop μ-loop
 loop-again c =
-    let a = c .before .before .before .before .args in
+    let a = c .before .before .before .before .before .args in
     let l = c .before .before .before .loop in
-    let mid : ℕ = l .low + (l .high - l .low) / 2 in
+    let xs = take (a .n) (now (a .sums)) in
     let full = length-take-le (a .n) (now (a .sums)) (omega arith) in
-    let at = getD-take (a .n) (now (a .sums)) mid 0 (omega arith) in
-    let up = first-lower (a .c) 0 (take (a .n) (now (a .sums))) (a .total) mid (c .before .before .before .before .pre .1) (omega arith) (omega (arith, at, c .if1 .taken)) in
-    (omega (arith, up), l .inv .1, l .inv .2)
-
-loop-less-2 : tie.Need-loop-less-2 Inv-loop μ-loop
-loop-less-2 c = search needs
-
-loop-again-2 : tie.Need-loop-again-2 Inv-loop μ-loop
-loop-again-2 c =
-    let a = c .before .before .before .before .args in
-    let l = c .before .before .before .loop in
-    let mid : ℕ = l .low + (l .high - l .low) / 2 in
-    let full = length-take-le (a .n) (now (a .sums)) (omega arith) in
-    let at = getD-take (a .n) (now (a .sums)) mid 0 (omega arith) in
-    (l .inv .0, first-upper (a .c) (take (a .n) (now (a .sums))) mid (omega arith) (omega (arith, at, c .if1 .left)), omega arith)
+    let at = getD-take (a .n) (now (a .sums)) (l .low + l .size / 2) 0 (omega arith) in
+    let up = c .before .before .before .before .before .pre .1 in
+    let kept = within-step (a .c) xs (a .total) (l .low) (l .size / 2) (l .size - l .size / 2) _ _ up (omega arith) (omega arith) (omega arith) (omega arith) at (c .step-over .ensures .0) in
+    (kept .0, kept .1, omega arith)
 
 returns : tie.Need-returns Inv-loop μ-loop
 returns c = (omega arith, omega arith)
+
+mul-step-over-2 : tie.Need-mul-step-over-2 Inv-loop μ-loop
+mul-step-over-2 c = search needs
+
+shared-slice-read-step-over-2 : tie.Need-shared-slice-read-step-over-2 Inv-loop μ-loop
+shared-slice-read-step-over-2 c = search needs
+
+step-over-requires-2 : tie.Need-step-over-requires-2 Inv-loop μ-loop
+step-over-requires-2 c κs = search needs
+
+add-result : tie.Need-add-result Inv-loop μ-loop
+add-result c = search needs
+
+returns-2 : tie.Need-returns-2 Inv-loop μ-loop
+returns-2 c =
+    let a = c .before .before .before .before .before .before .args in
+    let l = c .before .before .before .before .loop in
+    let xs = take (a .n) (now (a .sums)) in
+    let full = length-take-le (a .n) (now (a .sums)) (omega arith) in
+    let at = getD-take (a .n) (now (a .sums)) (l .low) 0 (omega arith) in
+    let up = c .before .before .before .before .before .before .pre .1 in
+    let here = last-step (a .c) xs (a .total) (l .low) _ _ up (omega arith) (omega arith) (omega arith) at (c .step-over2 .ensures .0) in
+    (here, omega arith)
 
 pub partition-point-spec : {M : Type 1} → statement M
 partition-point-spec =
@@ -72,13 +87,17 @@ partition-point-spec =
     Inv-loop
     μ-loop
     loop-holds
-    sub-mid
-    add-mid
-    mul-if1
-    shared-slice-read-if1
+    add-step-over
+    mul-step-over
+    shared-slice-read-step-over
+    step-over-requires
     add-low
+    sub-size
     loop-less
     loop-again
-    loop-less-2
-    loop-again-2
-    returns)
+    returns
+    mul-step-over-2
+    shared-slice-read-step-over-2
+    step-over-requires-2
+    add-result
+    returns-2)
