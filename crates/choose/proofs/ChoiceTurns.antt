@@ -1,17 +1,16 @@
 -- The two turns of a choice, as the code takes them.
 -- Assumes nothing.
-use mathlib.Core.Path.{_≡_, refl, sym, ap}
-use mathlib.Core.Bool.{false, false≢true}
-use mathlib.Core.List.{List}
-use Prim.Native.Nat.{ℕ, zero, suc, _+_, _-_, _≤_, _<_}
+use mathlib.Core.Path.{_≡_, refl, sym}
+use mathlib.Core.Bool.{true, false}
+use mathlib.Core.List.{List, [], _∷_}
+use Prim.Native.Nat.{ℕ, _+_, _-_, _≤_, _<_}
 use native.Mathlib.Nat.{add-zero}
 use native.Mathlib.Numerals.{add-one}
 use native.Mathlib.Omega.{arith}
 use lib.Dec.{eqb}
-use lib.ListN.{drop, getD}
-use lib.Seq.{getD-drop}
+use lib.ListN.{length, drop, getD, drop-of-length-le}
+use lib.Seq.{getD-drop, drop-cons}
 use borrow.Author.Tests.{lt-ltb, le-ltb}
-use Rattle.refusal.specs.Answer.{done}
 use Rattle.refusal.specs.Number.{number}
 use Rattle.refusal.specs.declared.Refusal.{Refusal}
 use Rattle.refusal.specs.declared.Refusal.the-variants.{AmountExceedsLength, NoWeights, Overflow, InsufficientNonZero, PlacesNotIncreasing, PlaceOutOfRange, InvalidTable, SliceTooShort, ScratchTooShort, TooLong, InvalidHints, ZeroState, BudgetExhausted}
@@ -25,10 +24,8 @@ use Rattle.coin_flipper.specs.State.{seen, told, Held}
 use Rattle.coin_flipper.specs.declared.CoinFlipper.{CoinFlipper}
 use Rattle.coin_flipper.specs.declared.Flip.the-variants.{Yes, No, Spent}
 use Rattle.coin_flipper.specs.declared.Flipped.{Flipped}
-use Rattle.choose.specs.Turns.{answerOfChoice, turned, byCoin, byDraw}
+use Rattle.choose.specs.Turns.{heldAt, turned, byCoin, byDraw}
 use Rattle.choose.specs.Choose.{turnOf}
-use Rattle.choose.specs.declared.Choice.{Choice}
-use Rattle.choose.specs.declared.Choice.the-variants.{Item, Refused}
 
 -- every refusal has a number above 0
 pub some-number : (why : Refusal) → eqb (number why) 0 ≡ false
@@ -46,27 +43,25 @@ some-number InvalidHints = refl
 some-number ZeroState = refl
 some-number BudgetExhausted = refl
 
--- what is held, where it is no refusal
-pub holds : (c : Choice) → answerOfChoice c .number ≡ 0 → answerOfChoice c ≡ done (answerOfChoice c .values)
-holds c e = rw (sym e)
+-- what is held at a place of the items, and past the last
+pub held-item : (items : List ℕ) (p : ℕ) → p < length items → heldAt items p ≡ getD items p 0 ∷ []
+held-item items p h = rw (drop-cons items p 0 h)
 
--- a number that is not 0
-pub above-zero : (n : ℕ) → eqb n 0 ≡ false → (m : ℕ) × (n ≡ suc m)
-above-zero zero e = absurd (false≢true (sym e))
-above-zero (suc m) e = (m, refl)
+pub held-none : (items : List ℕ) (p : ℕ) → length items ≤ p → heldAt items p ≡ []
+held-none items p h = rw (drop-of-length-le items h)
 
 -- ---- a coin
 
-module _ (budget n x : ℕ) (held : Choice) (f : CoinFlipper) (r : Flipped) (e : told r ≡ oneOverWithin n budget (seen f)) where
-  pub coin-yes : r .flip ≡ Yes → turned (record { held = Item x; flipper = r .flipper }) ≡ byCoin budget n x (answerOfChoice held .values) (seen f)
+module _ (budget n at held : ℕ) (f : CoinFlipper) (r : Flipped) (e : told r ≡ oneOverWithin n budget (seen f)) (items : List ℕ) (h : at < length items) where
+  pub coin-yes : r .flip ≡ Yes → turned items (record { place = at; «is_spent» = false; flipper = r .flipper }) ≡ byCoin budget n (getD items at 0) (heldAt items held) (seen f)
   unfolding byCoin
-  coin-yes q = rw (sym e, q)
+  coin-yes q = rw (sym e, q, held-item items at h)
 
-  pub coin-no : answerOfChoice held .number ≡ 0 → r .flip ≡ No → turned (record { held = held; flipper = r .flipper }) ≡ byCoin budget n x (answerOfChoice held .values) (seen f)
+  pub coin-no : r .flip ≡ No → turned items (record { place = held; «is_spent» = false; flipper = r .flipper }) ≡ byCoin budget n (getD items at 0) (heldAt items held) (seen f)
   unfolding byCoin
-  coin-no h q = rw (sym e, q) (ap (λ a. record { answer = a; coins = seen (r .flipper) }) (holds held h))
+  coin-no q = rw (sym e, q)
 
-  pub coin-spent : r .flip ≡ Spent → turned (record { held = Refused BudgetExhausted; flipper = r .flipper }) ≡ byCoin budget n x (answerOfChoice held .values) (seen f)
+  pub coin-spent : r .flip ≡ Spent → turned items (record { place = held; «is_spent» = true; flipper = r .flipper }) ≡ byCoin budget n (getD items at 0) (heldAt items held) (seen f)
   unfolding byCoin
   coin-spent q = rw (sym e, q)
 
@@ -76,24 +71,24 @@ module _ (budget n x : ℕ) (held : Choice) (f : CoinFlipper) (r : Flipped) (e :
 abbrev pub afterDraw : CoinFlipper → Sampled → CoinFlipper
 afterDraw f d = record { rng = d .rng; chunk = f .chunk; «chunk_remaining» = f .«chunk_remaining»; words = d .words }
 
-module _ (budget l p : ℕ) (items : List ℕ) (held : Choice) (f : CoinFlipper) (d : Sampled) (e : shown d ≡ boundedWithin (l + p) (budget - f .words) (f .rng) (f .words)) where
+module _ (budget l p : ℕ) (items : List ℕ) (held : ℕ) (f : CoinFlipper) (d : Sampled) (e : shown d ≡ boundedWithin (l + p) (budget - f .words) (f .rng) (f .words)) where
   pub held-drawn : Held budget f → Held budget (afterDraw f d)
   held-drawn h =
       let w : d .words ≤ f .words + (budget - f .words) = rw (sym e) at (within-words (l + p) (budget - f .words) (f .words) (f .rng)) in
       record { upto = h .upto; fits = h .fits; low = h .low; few = omega (arith, h .few) }
 
-  pub draw-spent : d .draw ≡ NoValue → turned (record { held = Refused BudgetExhausted; flipper = afterDraw f d }) ≡ byDraw budget l p (drop p items) (answerOfChoice held .values) (seen f)
+  pub draw-spent : d .draw ≡ NoValue → turned items (record { place = held; «is_spent» = true; flipper = afterDraw f d }) ≡ byDraw budget l p (drop p items) (heldAt items held) (seen f)
   unfolding byDraw
   draw-spent q = rw (sym e, q)
 
   module _ (ix : ℕ) (q : d .draw ≡ Value ix) where
-    pub draw-taken : ix < l → turned (record { held = Item (getD items (p + ix) 0); flipper = afterDraw f d }) ≡ byDraw budget l p (drop p items) (answerOfChoice held .values) (seen f)
+    pub draw-taken : ix < l → p + l ≤ length items → turned items (record { place = p + ix; «is_spent» = false; flipper = afterDraw f d }) ≡ byDraw budget l p (drop p items) (heldAt items held) (seen f)
     unfolding byDraw
-    draw-taken h = rw (sym e, q, lt-ltb ix l h, getD-drop p items ix 0)
+    draw-taken h i = rw (sym e, q, lt-ltb ix l h, getD-drop p items ix 0, held-item items (p + ix) (omega arith))
 
-    pub draw-left : answerOfChoice held .number ≡ 0 → l ≤ ix → turned (record { held = held; flipper = afterDraw f d }) ≡ byDraw budget l p (drop p items) (answerOfChoice held .values) (seen f)
+    pub draw-left : l ≤ ix → turned items (record { place = held; «is_spent» = false; flipper = afterDraw f d }) ≡ byDraw budget l p (drop p items) (heldAt items held) (seen f)
     unfolding byDraw
-    draw-left n h = rw (sym e, q, le-ltb ix l h) (ap (λ a. record { answer = a; coins = seen (afterDraw f d) }) (holds held n))
+    draw-left h = rw (sym e, q, le-ltb ix l h)
 
 -- ---- a draw where two items or more are sure to remain, else a coin
 

@@ -6,23 +6,20 @@ use mathlib.Core.List.{List, [], _∷_}
 use Prim.Native.Nat.{ℕ, zero, suc, _+_, _-_, _≤_, _<_}
 use native.Mathlib.Nat.{add-zero, add-suc, suc-add}
 use native.Mathlib.Omega.{arith}
-use lib.Dec.{eqb}
 use lib.ListN.{length, drop, getD, drop-of-length-le}
 use lib.Seq.{drop-cons, drop-drop}
-use borrow.Author.Tests.{eqb-true}
-use Rattle.refusal.specs.Answer.{done}
+use Rattle.refusal.specs.Answer.{done, declined}
+use Rattle.refusal.specs.declared.Refusal.the-variants.{BudgetExhausted}
 use Rattle.uniform_int.specs.Rejecting.{Drawing}
 use Rattle.coin_flipper.specs.Within.{Coins, Flipping}
 use Rattle.coin_flipper.specs.State.{seen, Held}
 use Rattle.coin_flipper.specs.declared.CoinFlipper.{CoinFlipper}
 use Rattle.coin_flipper.proofs.Laws.{held-more}
-use Rattle.choose.specs.Turns.{answerOfChoice, turned, ending, after}
+use Rattle.choose.specs.Turns.{heldAt, turned, ending, after}
 use Rattle.choose.specs.Hints.{LowerHolds}
 use Rattle.choose.specs.Choose.{turnOf, drawnLast, chooseFrom}
-use Rattle.choose.specs.declared.Choice.{Choice}
-use Rattle.choose.specs.declared.Choice.the-variants.{Nothing}
 use Rattle.choose.specs.declared.turns.Turn.{Turn}
-use Rattle.choose.proofs.ChoiceTurns.{holds, above-zero}
+use Rattle.choose.proofs.ChoiceTurns.{held-none}
 
 -- items that were drawn for are passed over
 pub skipped : (budget : ℕ) (lower upper items : List ℕ) (skip p : ℕ) (held : List ℕ) (s : Coins)
@@ -38,56 +35,51 @@ module _ (budget : ℕ) (lower upper items : List ℕ) (s₀ : Coins) where
   whole = chooseFrom budget lower upper items 0 0 [] s₀
 
   -- from place p on with what is held: the rest is the whole
-  pub record Turns (p : ℕ) (held : Choice) (f : CoinFlipper) : Type 0 where
-    pub goes : chooseFrom budget lower upper (drop p items) 0 p (answerOfChoice held .values) (seen f) ≡ whole
-    pub some : answerOfChoice held .number ≡ 0
+  pub record Turns (p held : ℕ) (f : CoinFlipper) : Type 0 where
+    pub goes : chooseFrom budget lower upper (drop p items) 0 p (heldAt items held) (seen f) ≡ whole
     pub good : Held budget f
     pub upto : p ≤ length items
 
   -- the end of the call: the answer is that of the definition
-  abbrev pub Ended : (held : Choice) (f : CoinFlipper) → Type 0
-  Ended held f = ending (answerOfChoice held) (seen f) ≡ whole
+  abbrev pub Ended : (held : ℕ) (f : CoinFlipper) → Type 0
+  Ended held f = ending (done (heldAt items held)) (seen f) ≡ whole
 
-  pub begin : (f : CoinFlipper) → seen f ≡ s₀ → Held 0 f → Turns 0 Nothing f
-  begin f e h = record { goes = rw e; some = refl; good = held-more 0 budget f (omega arith) h; upto = omega arith }
+  pub begin : (f : CoinFlipper) → seen f ≡ s₀ → Held 0 f → Turns 0 (length items) f
+  begin f e h = record { goes = rw (e, held-none items (length items) (omega arith)); good = held-more 0 budget f (omega arith) h; upto = omega arith }
 
-  module _ (p : ℕ) (held : Choice) (f : CoinFlipper) (t : Turns p held f) where
+  module _ (p held : ℕ) (f : CoinFlipper) (t : Turns p held f) where
     pub finish : length items ≤ p → Ended held f
     unfolding chooseFrom
-    finish h = rw (holds held (t .some)) (rw (drop-of-length-le items h) at (t .goes))
+    finish h = rw (drop-of-length-le items h) at (t .goes)
 
-    module _ (h : p < length items) (r : Turn) (e : turned r ≡ turnOf budget (getD lower p 0) p (drop p items) (answerOfChoice held .values) (seen f)) where
+    module _ (h : p < length items) (r : Turn) (e : turned items r ≡ turnOf budget (getD lower p 0) p (drop p items) (heldAt items held) (seen f)) where
       abbrev rest : List ℕ → Coins → Drawing
       rest c s = cond (drawnLast (getD lower p 0) (getD upper p 0)) (ending (done c) s) (chooseFrom budget lower upper (drop (suc p) items) (getD lower p 0 - 1) (suc p) c s)
 
-      turn : whole ≡ after (turned r) rest
+      turn : whole ≡ after (turned items r) rest
       unfolding chooseFrom
       turn = sym (t .goes) ∙ rw (drop-cons items p 0 h) (ap (λ (x : Flipping). after x rest) (sym (rw (drop-cons items p 0 h) at e)))
 
       -- the budget ran out
-      pub stop : eqb (answerOfChoice (r .held) .number) 0 ≡ false → Ended (r .held) (r .flipper)
-      stop b = let n = above-zero (answerOfChoice (r .held) .number) b in sym (turn ∙ rw (n .1))
+      pub stop : r .«is_spent» ≡ true → ending (declined BudgetExhausted) (seen (r .flipper)) ≡ whole
+      stop n = sym (turn ∙ rw n)
 
-      module _ (b : eqb (answerOfChoice (r .held) .number) 0 ≡ true) where
-        n : answerOfChoice (r .held) .number ≡ 0
-        n = eqb-true (answerOfChoice (r .held) .number) 0 b
-
+      module _ (n : r .«is_spent» ≡ false) where
         -- the draw was for all that remain
-        pub last : drawnLast (getD lower p 0) (getD upper p 0) ≡ true → Ended (r .held) (r .flipper)
-        last d = rw (holds (r .held) n) (sym (turn ∙ rw (n, d)))
+        pub last : drawnLast (getD lower p 0) (getD upper p 0) ≡ true → Ended (r .place) (r .flipper)
+        last d = sym (turn ∙ rw (n, d))
 
         -- the next turn comes after the items that this one was for
         pub again : drawnLast (getD lower p 0) (getD upper p 0) ≡ false → LowerHolds (length items) lower → Held budget (r .flipper)
-            → Turns (p + suc (getD lower p 0 - 1)) (r .held) (r .flipper)
+            → Turns (p + suc (getD lower p 0 - 1)) (r .place) (r .flipper)
         again d i g =
             record {
               goes =
                   sym
                   (turn
                   ∙ rw (n, d)
-                  (skipped budget lower upper (drop (suc p) items) (getD lower p 0 - 1) (suc p) (answerOfChoice (r .held) .values) (seen (r .flipper))
+                  (skipped budget lower upper (drop (suc p) items) (getD lower p 0 - 1) (suc p) (heldAt items (r .place)) (seen (r .flipper))
                   ∙ rw (drop-drop (getD lower p 0 - 1) (suc p) items, add-suc p (getD lower p 0 - 1), suc-add p (getD lower p 0 - 1))));
-              some = n;
               good = g;
               upto = omega (arith, i .least p (omega arith));
             }

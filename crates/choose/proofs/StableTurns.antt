@@ -15,13 +15,9 @@ use Rattle.coin_flipper.specs.Within.{Coins, Flipping, oneOverWithin}
 use Rattle.coin_flipper.specs.State.{seen, Held}
 use Rattle.coin_flipper.specs.declared.CoinFlipper.{CoinFlipper}
 use Rattle.coin_flipper.proofs.Laws.{held-more}
-use Rattle.choose.specs.Turns.{answerOfChoice, turned, ending, after, given, taking, byCoin}
+use Rattle.choose.specs.Turns.{after, given, taking, byCoin}
 use Rattle.choose.specs.Stable.{stableFrom, latest, stableByHints}
 use Rattle.choose.specs.Choose.{turnOf, chooseFrom}
-use Rattle.choose.specs.declared.Choice.{Choice}
-use Rattle.choose.specs.declared.Choice.the-variants.{Nothing}
-use Rattle.choose.specs.declared.turns.Turn.{Turn}
-use Rattle.choose.proofs.ChoiceTurns.{holds, above-zero}
 
 -- ---- the Rust's groups
 

@@ -3,7 +3,7 @@ use mathlib.Core.Bool.{cond}
 use mathlib.Core.List.{List, [], _∷_}
 use Prim.Native.Nat.{ℕ, zero, suc, _+_, _-_}
 use lib.Dec.{ltb}
-use lib.ListN.{getD}
+use lib.ListN.{getD, take, drop}
 use Rattle.refusal.specs.Answer.{Answer, done, declined}
 use Rattle.refusal.specs.declared.Refusal.the-variants.{BudgetExhausted}
 use Rattle.uniform_int.specs.Rejecting.{Drawing}
@@ -25,9 +25,13 @@ answerOfChoice (Refused why) = declined why
 abbrev pub chosen : Chosen → Drawing
 chosen r = record { answer = answerOfChoice (r .answer); words = r .words; rng = r .rng }
 
+-- what is held: the item at a place, and none at one past the last
+abbrev pub heldAt : (items : List ℕ) (place : ℕ) → List ℕ
+heldAt items place = take 1 (drop place items)
+
 -- all that a turn leaves: what is held, or the refusal where the budget ran out; and the coins
-abbrev pub turned : Turn → Flipping
-turned t = record { answer = answerOfChoice (t .held); coins = seen (t .flipper) }
+abbrev pub turned : (items : List ℕ) → Turn → Flipping
+turned items t = record { answer = cond (t .«is_spent») (declined BudgetExhausted) (done (heldAt items (t .place))); coins = seen (t .flipper) }
 
 -- the call ends with this answer
 abbrev pub ending : Answer → Coins → Drawing

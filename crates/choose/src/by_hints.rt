@@ -4,14 +4,14 @@ ghost use mathlib.Core.List.{[]};
 ghost use Prim.Native.Nat.{suc, _-_, _^_, _≤_};
 ghost use lib.ListN.{length, getD};
 ghost use Rattle.coin_flipper.specs.Within.{start};
+ghost use Rattle.refusal.specs.Answer.{done};
 ghost use Rattle.choose.specs.Choose.{chooseFrom, drawnLast, exactly};
 ghost use Rattle.choose.specs.Hints.{LowerHolds};
-ghost use Rattle.choose.specs.Turns.{chosen};
+ghost use Rattle.choose.specs.Turns.{answerOfChoice, chosen, heldAt};
 use super::Choice;
 use super::Chosen;
 use super::closing;
 use super::ended;
-use super::turns::goes_on;
 use super::turns::turn_at;
 use coin_flipper::CoinFlipper;
 use refusal::Refusal;
@@ -72,6 +72,16 @@ fn hint_at(hints: &[u32], place: usize) -> u32
     0
 }
 
+// The item at a place, and none past the last.
+fn item_at(items: &[u32], place: usize) -> Choice
+    ensures { λ r. ⌜ answerOfChoice r ≡ done (heldAt (now (items .entry)) place) ⌝ }
+{
+    if place < items.len() {
+        return Choice::Item(items[place]);
+    }
+    Choice::Nothing
+}
+
 // Turn by turn, as the lower hints allow: the definition `chooseFrom`. With no hints it is one question for each item in order. It is one loop
 // for both choosers, so that the coins are flipped in it and not in a call.
 pub(crate) fn choose_by_hints(
@@ -85,23 +95,22 @@ pub(crate) fn choose_by_hints(
     ensures { λ r. ⌜ chosen r ≡ chooseFrom budget (now (lower .entry)) (now (upper .entry)) (now (items .entry)) 0 0 [] (start rng) ⌝ }
 {
     let mut flipper = CoinFlipper::new(rng);
-    let mut held = Choice::Nothing;
+    let mut held = items.len();
     let mut consumed: usize = 0;
     while consumed < items.len() {
         let least = hint_at(lower, consumed);
         let most = hint_at(upper, consumed);
         let turn = turn_at(flipper, held, items, consumed, least, budget);
         let next = turn.flipper;
-        let holds = turn.held;
-        if !goes_on(holds) {
-            return closing(holds, next);
+        if turn.is_spent {
+            return closing(Choice::Refused(Refusal::BudgetExhausted), next);
         }
         if drawn_last(least, most) {
-            return closing(holds, next);
+            return closing(item_at(items, turn.place), next);
         }
         flipper = next;
-        held = holds;
+        held = turn.place;
         consumed += turn_length(least);
     }
-    closing(held, flipper)
+    closing(item_at(items, held), flipper)
 }

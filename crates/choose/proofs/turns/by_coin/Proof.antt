@@ -20,19 +20,19 @@ returns : tie.Need-returns
 returns c =
     let a = c .before .before .before .before .args in
     let r = c .before .before .before .random-ratio-one-over in
-    (coin-yes (a .budget) (a .n) (a .item) (a .held) (a .flipper) (r .result) (r .ensures .0) (c .enum-told .given .1), r .ensures .1)
+    (λ items h. coin-yes (a .budget) (a .n) (a .at) (a .held) (a .flipper) (r .result) (r .ensures .0) items h (c .enum-told .given .1), r .ensures .1)
 
 returns-2 : tie.Need-returns-2
 returns-2 c =
     let a = c .before .before .before .before .args in
     let r = c .before .before .before .random-ratio-one-over in
-    (coin-no (a .budget) (a .n) (a .item) (a .held) (a .flipper) (r .result) (r .ensures .0) (c .before .before .before .before .pre .1) (c .enum-told2 .given .1), r .ensures .1)
+    (λ items h. coin-no (a .budget) (a .n) (a .at) (a .held) (a .flipper) (r .result) (r .ensures .0) items h (c .enum-told2 .given .1), r .ensures .1)
 
 returns-3 : tie.Need-returns-3
 returns-3 c =
     let a = c .before .before .before .before .args in
     let r = c .before .before .before .random-ratio-one-over in
-    (coin-spent (a .budget) (a .n) (a .item) (a .held) (a .flipper) (r .result) (r .ensures .0) (c .enum-told3 .given .1), r .ensures .1)
+    (λ items h. coin-spent (a .budget) (a .n) (a .at) (a .held) (a .flipper) (r .result) (r .ensures .0) items h (c .enum-told3 .given .1), r .ensures .1)
 
 pub by-coin-spec : {M : Type 1} → statement M
 by-coin-spec =

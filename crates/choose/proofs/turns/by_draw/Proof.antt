@@ -41,7 +41,7 @@ returns-2 c =
     let d = c .before .before .before .before .before .before .random-range-within in
     let v = c .before .before .draw .given in
     rw (c .before .before .before .before .after-draw .ensures) (
-      draw-left (a .budget) (a .least) (a .at) (now (a .items)) (a .held) (a .flipper) (d .result) (d .ensures) (v .0 .0) (v .1) (s .pre .1) (omega arith),
+      draw-left (a .budget) (a .least) (a .at) (now (a .items)) (a .held) (a .flipper) (d .result) (d .ensures) (v .0 .0) (v .1) (omega arith),
       held-drawn (a .budget) (a .least) (a .at) (now (a .items)) (a .held) (a .flipper) (d .result) (d .ensures) (s .pre .0),
     )
 
@@ -51,20 +51,14 @@ cast-place c = search needs
 add-place : tie.Need-add-place
 add-place c = search needs
 
-mul-item : tie.Need-mul-item
-mul-item c = search needs
-
-shared-slice-read-item : tie.Need-shared-slice-read-item
-shared-slice-read-item c = search needs
-
 returns-3 : tie.Need-returns-3
 returns-3 c =
-    let s = c .before .before .before .before .before .before .before .before .before .before in
+    let s = c .before .before .before .before .before .before .before .before .before in
     let a = s .args in
-    let d = c .before .before .before .before .before .before .before .random-range-within in
-    let v = c .before .before .before .draw .given in
-    rw (c .before .before .before .before .before .after-draw .ensures) (
-      draw-taken (a .budget) (a .least) (a .at) (now (a .items)) (a .held) (a .flipper) (d .result) (d .ensures) (v .0 .0) (v .1) (omega arith),
+    let d = c .before .before .before .before .before .before .random-range-within in
+    let v = c .before .before .draw .given in
+    rw (c .before .before .before .before .after-draw .ensures) (
+      draw-taken (a .budget) (a .least) (a .at) (now (a .items)) (a .held) (a .flipper) (d .result) (d .ensures) (v .0 .0) (v .1) (omega arith) (omega arith),
       held-drawn (a .budget) (a .least) (a .at) (now (a .items)) (a .held) (a .flipper) (d .result) (d .ensures) (s .pre .0),
     )
 
@@ -82,6 +76,4 @@ by-draw-spec =
     returns-2
     cast-place
     add-place
-    mul-item
-    shared-slice-read-item
     returns-3)

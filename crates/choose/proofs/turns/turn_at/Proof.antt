@@ -22,20 +22,14 @@ add-n c = search needs
 cast-n : tie.Need-cast-n
 cast-n c = search needs
 
-mul-item : tie.Need-mul-item
-mul-item c = search needs
-
-shared-slice-read-item : tie.Need-shared-slice-read-item
-shared-slice-read-item c = search needs
-
 by-coin-requires : tie.Need-by-coin-requires
 by-coin-requires c κs = search needs
 
 returns-2 : tie.Need-returns-2
 returns-2 c =
-    let a = c .before .before .before .before .args in
+    let a = c .before .before .before .args in
     let e = c .by-coin .ensures in
-    (e .0 ∙ sym (turn-coin (a .budget) (a .least) (a .at) (now (a .items)) _ _ (omega arith)), e .1)
+    (e .0 (now (a .items)) (omega arith) ∙ sym (turn-coin (a .budget) (a .least) (a .at) (now (a .items)) _ _ (omega arith)), e .1)
 
 pub turn-at-spec : {M : Type 1} → statement M
 turn-at-spec =
@@ -45,7 +39,5 @@ turn-at-spec =
     returns
     add-n
     cast-n
-    mul-item
-    shared-slice-read-item
     by-coin-requires
     returns-2)
