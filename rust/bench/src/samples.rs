@@ -1,7 +1,7 @@
 //! Samples of indices. rand returns its indices in a vector of its own; the port is lent the same two slices again and again.
 
 use gapyndura::index;
-use reference::methods::{Method, due};
+use reference::methods::{Method, due, scratch};
 
 use crate::numbers::grouped;
 use crate::sides::{Case, Sides, ours, theirs};
@@ -27,7 +27,7 @@ pub fn cases() -> Vec<Case> {
 
 fn case(amount: u32, length: u32) -> Case {
     let size = format!("{} of {}", grouped(amount.into()), power_or_digits(length));
-    let entries = amount as usize + scratch(amount, length);
+    let entries = amount as usize + scratch(length, amount);
     Case {
         lent: Some(entries * size_of::<u32>()),
         ..Case::new(call(amount, length), size, move || sides(amount, length))
@@ -43,14 +43,6 @@ fn call(amount: u32, length: u32) -> &'static str {
     }
 }
 
-/// The entries of scratch that the port needs.
-pub fn scratch(amount: u32, length: u32) -> usize {
-    match due(length, amount) {
-        Method::InPlace => length as usize,
-        Method::Floyd | Method::Rejection => 0,
-    }
-}
-
 fn power_or_digits(length: u32) -> String {
     match length {
         u32::MAX => "2^32 − 1".to_owned(),
@@ -61,7 +53,7 @@ fn power_or_digits(length: u32) -> String {
 
 fn sides(amount: u32, length: u32) -> Sides {
     let indices = vec![0; amount as usize];
-    let scratch = vec![0; scratch(amount, length)];
+    let scratch = vec![0; scratch(length, amount)];
     Sides::new(
         theirs(
             (length as usize, amount as usize),

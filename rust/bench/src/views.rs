@@ -3,9 +3,9 @@
 
 use gapyndura::slice;
 use rand::seq::IndexedRandom;
+use reference::methods::scratch;
 
 use crate::numbers::{counting, so_many_of};
-use crate::samples::scratch;
 use crate::sides::{Case, Sides, answer, ours, theirs};
 
 pub fn cases() -> Vec<Case> {
@@ -18,7 +18,7 @@ pub fn cases() -> Vec<Case> {
 
 fn view(amount: usize, len: usize) -> Sides {
     let indices = vec![0; amount];
-    let scratch = vec![0; scratch(amount as u32, len as u32)];
+    let scratch = vec![0; scratch(len as u32, amount as u32)];
     Sides::new(
         theirs(
             (counting(len), amount),
