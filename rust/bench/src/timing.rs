@@ -2,9 +2,7 @@
 
 use std::time::Duration;
 
-use rand::SeedableRng;
-use rand::rngs::Xoshiro256PlusPlus;
-use reference::{State, state};
+use reference::some_state;
 
 use crate::sides::Sides;
 
@@ -40,7 +38,7 @@ impl Plan {
         let mut rand = Vec::new();
         let mut port = Vec::new();
         for block in 0..self.blocks {
-            let times = sides.times(from(block), calls, rounds, block as usize % 2);
+            let times = sides.times(some_state(block), calls, rounds, block as usize % 2);
             let nanoseconds = |side: usize| {
                 times[side].as_nanos() as f64 / f64::from(calls) / f64::from(rounds[side])
             };
@@ -60,7 +58,7 @@ impl Plan {
     fn block(&self, sides: &mut Sides) -> Block {
         let mut calls = 1;
         loop {
-            let times = sides.times(from(0), calls, [1, 1], 0);
+            let times = sides.times(some_state(0), calls, [1, 1], 0);
             if times.into_iter().max() >= Some(self.block / 2) {
                 let least = (self.block / LEAST).as_nanos();
                 let rounds = times.map(|time| least.div_ceil(time.as_nanos().max(1)) as u32);
@@ -69,11 +67,6 @@ impl Plan {
             calls *= 2;
         }
     }
-}
-
-/// The state from which a block starts.
-fn from(block: u64) -> State {
-    state(&Xoshiro256PlusPlus::seed_from_u64(block))
 }
 
 /// The middle of these numbers, or the mean of the two in the middle.

@@ -134,7 +134,7 @@ impl Chooser for StableChoice {
     const PORT: choosing::Choose = port::choose_stable;
 
     fn faulty(plant: Option<&str>) -> Option<choosing::Choose> {
-        faults::choose_stable(plant)
+        faults::either::<Self>(plant)
     }
 
     fn further(visit: &mut impl FnMut(Input)) {

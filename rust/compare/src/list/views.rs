@@ -4,9 +4,9 @@ use reference::call::{Call, LONGEST_SLICE};
 use reference::methods::{by_rand, scratch};
 use reference::sampling::Sampling;
 use reference::words::giving;
-use reference::{State, from_state};
+use reference::{State, from_state, some_state};
 
-use crate::contents::{Section, some_state};
+use crate::contents::Section;
 
 /// Numbers of items and amounts: none, one, few, and on both sides of the methods' bounds.
 const VIEWS: [(u64, u64); 18] = [

@@ -2,9 +2,7 @@
 
 use reference::methods::{by_rand, scratch};
 use reference::sampling::Sampling;
-use reference::{State, from_state};
-
-use crate::inputs::some_state;
+use reference::{State, from_state, some_state};
 
 /// Every amount is tried at every length to this one, from so many generators.
 const SMALL: u64 = 40;

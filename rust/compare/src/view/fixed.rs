@@ -1,8 +1,8 @@
 //! The views that every run tries: small ones without gap, those at the bounds of the methods, budgets and refusals.
 
 use reference::sampling::Sampling;
+use reference::some_state;
 
-use crate::inputs::some_state;
 use crate::sample::fixed::{self, budgets, longer, slices};
 
 /// Every amount to two above the number of items is tried for every such number to this one, from so many generators.
