@@ -187,7 +187,7 @@ impl Sides {
 /// A case of a table.
 pub struct Case {
     /// The call, and of a sample the method.
-    pub call: String,
+    pub call: &'static str,
     /// How large it is.
     pub size: String,
     /// The bytes that the port is lent to write, where the table tells of memory.
@@ -197,12 +197,12 @@ pub struct Case {
 
 impl Case {
     pub fn new(
-        call: impl Into<String>,
+        call: &'static str,
         size: impl Into<String>,
         sides: impl Fn() -> Sides + 'static,
     ) -> Self {
         Self {
-            call: call.into(),
+            call,
             size: size.into(),
             lent: None,
             sides: Box::new(sides),

@@ -32,7 +32,7 @@ fn line(case: &Case, plan: &Plan) -> String {
     let measured = plan.measure(&mut sides);
     let mut cells = vec![
         case.size.clone(),
-        case.call.clone(),
+        case.call.to_owned(),
         rounded(measured.rand, 1),
         rounded(measured.port, 1),
         rounded(measured.ratio, 2),

@@ -18,6 +18,9 @@ pub struct Plan {
 /// The faster side's block has at least this part of a block's time.
 const LEAST: u32 = 10;
 
+/// How often a time is taken to find out how many calls a block has, so that none counts in which other work had the processor.
+const TRIES: usize = 3;
+
 /// The medians of all blocks: of the nanoseconds that a call takes on each side, and of the ratio of neighbouring blocks.
 pub struct Measured {
     pub rand: f64,
@@ -58,10 +61,16 @@ impl Plan {
     fn block(&self, sides: &mut Sides) -> Block {
         let mut calls = 1;
         loop {
-            let times = sides.times(some_state(0), calls, [1, 1], 0);
-            if times.into_iter().max() >= Some(self.block / 2) {
-                let least = (self.block / LEAST).as_nanos();
-                let rounds = times.map(|time| least.div_ceil(time.as_nanos().max(1)) as u32);
+            let tries = [(); TRIES].map(|()| sides.times(some_state(0), calls, [1, 1], 0));
+            let least = |side: usize| {
+                let times = tries.iter().map(|times| times[side]);
+                times.fold(Duration::MAX, Duration::min)
+            };
+            let times = [least(0), least(1)];
+            let slower = times[0].max(times[1]);
+            if slower >= self.block / 2 {
+                let short = (self.block / LEAST).as_nanos();
+                let rounds = times.map(|time| short.div_ceil(time.as_nanos().max(1)) as u32);
                 return Block { calls, rounds };
             }
             calls *= 2;
