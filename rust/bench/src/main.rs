@@ -36,16 +36,16 @@ const GROUPS: [Group; 6] = [
     ("Views", views::cases),
 ];
 
-/// Blocks of a run.
+/// The time of a run.
 const PLAN: Plan = Plan {
-    blocks: 101,
-    block: Duration::from_millis(10),
+    time: Duration::from_millis(1500),
+    block: Duration::from_millis(1),
 };
 
 /// The same, for a first look.
 const QUICK: Plan = Plan {
-    blocks: 9,
-    block: Duration::from_millis(2),
+    time: Duration::from_millis(40),
+    ..PLAN
 };
 
 fn main() -> ExitCode {
@@ -65,8 +65,8 @@ fn main() -> ExitCode {
         return ExitCode::from(2);
     }
     println!(
-        "Nanoseconds a call; the ratio is ours to rand's. Medians of {} blocks of each side, which take turns.",
-        plan.blocks
+        "Nanoseconds a call; the ratio is ours to rand's. Medians of the blocks of each side, which take turns for {:?} a case.",
+        plan.time
     );
     for (title, cases) in groups {
         table::print(title, &cases, &plan);

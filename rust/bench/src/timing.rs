@@ -1,19 +1,23 @@
 //! Time, taken of both sides in turn.
 
-use std::time::Duration;
+use std::time::{Duration, Instant};
 
 use reference::some_state;
 
 use crate::sides::Sides;
 
 /// How long is measured. The machine may do other things at the same time, and may be faster at one time than at another: so there are many
-/// short blocks, each side's is compared with its neighbour alone, and the median of these ratios counts.
+/// blocks, each side's is compared with its neighbour alone, and the median of these ratios counts. They are shorter than the time for which
+/// an operating system lets other work have the processor, so that most are not interrupted.
 pub struct Plan {
-    /// The blocks of each side.
-    pub blocks: u64,
+    /// The time that the blocks of a case take together, unless they are the fewest.
+    pub time: Duration,
     /// The time that a block of the slower side has at most, unless one call takes more, and half of which it has at least.
     pub block: Duration,
 }
+
+/// The fewest blocks of each side.
+const FEWEST: u64 = 15;
 
 /// The faster side's block has at least this part of a block's time.
 const LEAST: u32 = 10;
@@ -40,7 +44,8 @@ impl Plan {
         let Block { calls, rounds } = self.block(sides);
         let mut rand = Vec::new();
         let mut port = Vec::new();
-        for block in 0..self.blocks {
+        let started = Instant::now();
+        for block in (0..).take_while(|&block| block < FEWEST || started.elapsed() < self.time) {
             let times = sides.times(some_state(block), calls, rounds, block as usize % 2);
             let nanoseconds = |side: usize| {
                 times[side].as_nanos() as f64 / f64::from(calls) / f64::from(rounds[side])
