@@ -1,14 +1,14 @@
 //! What is taken from the heap.
 
 use std::alloc::{GlobalAlloc, Layout, System};
-use std::sync::atomic::{AtomicBool, AtomicUsize, Ordering};
+use std::cell::Cell;
 
-/// Whether allocations are counted.
-static IS_ON: AtomicBool = AtomicBool::new(false);
-static TIMES: AtomicUsize = AtomicUsize::new(0);
-static BYTES: AtomicUsize = AtomicUsize::new(0);
+thread_local! {
+    /// What this thread has allocated since counting began. None where nothing is counted.
+    static COUNT: Cell<Option<Allocated>> = const { Cell::new(None) };
+}
 
-/// The system's allocator, which counts on demand. Only one thread runs, so that no order of its counts matters.
+/// The system's allocator, which counts on demand, each thread's allocations apart.
 pub struct Counting;
 
 // SAFETY: all calls are handed to the system's allocator as they come.
@@ -34,14 +34,16 @@ unsafe impl GlobalAlloc for Counting {
 }
 
 fn count(size: usize) {
-    if IS_ON.load(Ordering::Relaxed) {
-        TIMES.fetch_add(1, Ordering::Relaxed);
-        BYTES.fetch_add(size, Ordering::Relaxed);
+    if let Some(Allocated { times, bytes }) = COUNT.get() {
+        COUNT.set(Some(Allocated {
+            times: times + 1,
+            bytes: bytes + size,
+        }));
     }
 }
 
 /// Allocations.
-#[derive(Clone, Copy, Debug, PartialEq, Eq)]
+#[derive(Clone, Copy, Debug, Default, PartialEq, Eq)]
 pub struct Allocated {
     pub times: usize,
     pub bytes: usize,
@@ -49,13 +51,8 @@ pub struct Allocated {
 
 /// What `call` answers, and what it allocates.
 pub fn allocated<T>(call: impl FnOnce() -> T) -> (T, Allocated) {
-    let before = (TIMES.load(Ordering::Relaxed), BYTES.load(Ordering::Relaxed));
-    IS_ON.store(true, Ordering::Relaxed);
+    COUNT.set(Some(Allocated::default()));
     let answer = call();
-    IS_ON.store(false, Ordering::Relaxed);
-    let heap = Allocated {
-        times: TIMES.load(Ordering::Relaxed) - before.0,
-        bytes: BYTES.load(Ordering::Relaxed) - before.1,
-    };
+    let heap = COUNT.take().unwrap_or_default();
     (answer, heap)
 }

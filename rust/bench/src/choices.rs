@@ -1,127 +1,97 @@
 //! Choices of one item. rand is given an iterator that has the hints itself; the port is lent them as lists and looks at every one.
 
-use std::hint::black_box;
 use std::iter;
 
 use gapyndura::Xoshiro256PlusPlus as Port;
-use gapyndura::iterator;
+use gapyndura::iterator::{ChooseError, Chosen, choose, choose_stable};
 use rand::rngs::Xoshiro256PlusPlus as Rand;
 use rand::seq::IteratorRandom;
 use reference::choose_line::hints;
-use reference::{State, from_state, state};
 
-use crate::sides::Side;
+use crate::numbers::{counting, grouped};
+use crate::sides::{Case, Sides, answer, ours, theirs};
 
-/// A way to choose.
-#[derive(Clone, Copy, Debug)]
-pub struct Choice {
-    pub is_stable: bool,
-    /// Whether the hints are exact. Else there are none.
-    pub is_exact: bool,
-}
+/// The pattern of hints that tell nothing.
+const NO_HINTS: u64 = 0;
 
-impl Choice {
-    pub const CHOOSE: Self = Self::new(false, false);
-    pub const CHOOSE_EXACT: Self = Self::new(false, true);
-    pub const STABLE: Self = Self::new(true, false);
-    pub const STABLE_EXACT: Self = Self::new(true, true);
+/// The pattern of hints that tell what remains.
+const EXACT: u64 = 1;
 
-    const fn new(is_stable: bool, is_exact: bool) -> Self {
-        Self {
-            is_stable,
-            is_exact,
+pub fn cases() -> Vec<Case> {
+    type Way = (&'static str, &'static str, fn(usize) -> Sides);
+    let one: [Way; 2] = [
+        ("`choose`", "no hints", choose_unhinted),
+        ("`choose`", "exact hints", choose_exact),
+    ];
+    let stable: [Way; 2] = [
+        ("`choose_stable`", "no hints", stable_unhinted),
+        ("`choose_stable`", "exact hints", stable_exact),
+    ];
+    let mut cases = Vec::new();
+    let mut add = |ways: [Way; 2], counts: &[usize]| {
+        for (call, hints, sides) in ways {
+            for &count in counts {
+                let size = format!("{} items, {hints}", grouped(count as u64));
+                cases.push(Case::new(call, size, move || sides(count)));
+            }
         }
-    }
-
-    /// The call.
-    pub fn name(self) -> &'static str {
-        match (self.is_stable, self.is_exact) {
-            (false, false) => "choose, no hints",
-            (false, true) => "choose, exact hints",
-            (true, false) => "choose_stable, no hints",
-            (true, true) => "choose_stable, exact hints",
-        }
-    }
+    };
+    add(one, &[10, 1000, 100_000]);
+    add(stable, &[10, 1000]);
+    cases
 }
 
-/// rand.
-pub struct Theirs {
-    choice: Choice,
-    rng: Rand,
-    items: Vec<u32>,
+fn choose_unhinted(count: usize) -> Sides {
+    sides(
+        count,
+        NO_HINTS,
+        |rng, items| unhinted(items).choose(rng),
+        choose,
+    )
 }
 
-impl Theirs {
-    pub fn new(choice: Choice, items: usize) -> Self {
-        Self {
-            choice,
-            rng: from_state([1, 2, 3, 4]),
-            items: (0..).take(items).collect(),
-        }
-    }
+fn choose_exact(count: usize) -> Sides {
+    sides(
+        count,
+        EXACT,
+        |rng, items| items.iter().copied().choose(rng),
+        choose,
+    )
 }
 
-impl Side for Theirs {
-    fn start(&mut self, from: State) {
-        self.rng = from_state(from);
-    }
-
-    fn draw(&mut self) {
-        let rng = &mut self.rng;
-        let mut exact = black_box(&self.items).iter().copied();
-        let chosen = match (self.choice.is_stable, self.choice.is_exact) {
-            (false, true) => exact.choose(rng),
-            (true, true) => exact.choose_stable(rng),
-            // A closure tells nothing of what remains.
-            (false, false) => iter::from_fn(|| exact.next()).choose(rng),
-            (true, false) => iter::from_fn(|| exact.next()).choose_stable(rng),
-        };
-        black_box(chosen);
-    }
-
-    fn state(&self) -> State {
-        state(&self.rng)
-    }
+fn stable_unhinted(count: usize) -> Sides {
+    let rand = |rng: &mut _, items: &[u32]| unhinted(items).choose_stable(rng);
+    sides(count, NO_HINTS, rand, choose_stable)
 }
 
-/// The port.
-pub struct Ours {
-    choice: Choice,
-    rng: Port,
-    items: Vec<u32>,
-    lower: Vec<u32>,
-    upper: Vec<u32>,
+fn stable_exact(count: usize) -> Sides {
+    let rand = |rng: &mut _, items: &[u32]| items.iter().copied().choose_stable(rng);
+    sides(count, EXACT, rand, choose_stable)
 }
 
-impl Ours {
-    pub fn new(choice: Choice, items: usize) -> Self {
-        let (lower, upper) = hints(choice.is_exact.into(), items);
-        Self {
-            choice,
-            rng: Port::from_state([1, 2, 3, 4]),
-            items: (0..).take(items).collect(),
-            lower,
-            upper,
-        }
-    }
+/// The items behind a closure, which tells nothing of what remains.
+fn unhinted(items: &[u32]) -> impl Iterator<Item = u32> {
+    let mut items = items.iter().copied();
+    iter::from_fn(move || items.next())
 }
 
-impl Side for Ours {
-    fn start(&mut self, from: State) {
-        self.rng = Port::from_state(from);
-    }
-
-    fn draw(&mut self) {
-        let choose = match self.choice.is_stable {
-            false => iterator::choose,
-            true => iterator::choose_stable,
-        };
-        let items = black_box(&self.items);
-        let chosen = choose(&mut self.rng, items, &self.lower, &self.upper, u64::MAX);
-        black_box(chosen.expect("the hints hold"));
-    }
-
-    fn state(&self) -> State {
-        self.rng.state()
-    }
+/// Both sides of a choice from so many items. The pattern of the port's hints must be what rand's iterator tells.
+fn sides(
+    count: usize,
+    pattern: u64,
+    rand: impl Fn(&mut Rand, &[u32]) -> Option<u32> + 'static,
+    port: impl Fn(&mut Port, &[u32], &[u32], &[u32], u64) -> Result<Chosen, ChooseError> + 'static,
+) -> Sides {
+    let (lower, upper) = hints(pattern, count);
+    Sides::new(
+        theirs(counting(count), move |rng, items| rand(rng, items), answer),
+        ours(
+            (counting(count), lower, upper),
+            move |rng, (items, lower, upper)| {
+                let chosen = port(rng, items, lower, upper, u64::MAX);
+                chosen.expect("the hints hold").item
+            },
+            answer,
+        ),
+    )
 }

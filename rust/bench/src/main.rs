@@ -1,14 +1,15 @@
-//! Measures Gapyndura's calls against rand's, in one run, and prints a table in Markdown.
+//! Measures Gapyndura's calls against rand's, in one run, and prints tables in Markdown.
 
 mod allocation;
 mod choices;
-mod fills;
-mod lent;
+mod generators;
+mod numbers;
 mod samples;
 mod shuffles;
 mod sides;
 mod table;
 mod timing;
+mod views;
 mod weights;
 
 use std::env;
@@ -16,93 +17,106 @@ use std::process::ExitCode;
 use std::time::Duration;
 
 use allocation::Counting;
-use choices::Choice;
 use sides::Case;
 use timing::Plan;
-use weights::Work;
 
 #[global_allocator]
 static ALLOCATOR: Counting = Counting;
 
-/// The cases of the table.
-const CASES: [Case; 28] = [
-    Case::sample(12, 351),
-    Case::sample(12, 350),
-    Case::sample(100, 10_000),
-    Case::sample(163, 44_010),
-    Case::sample(163, 44_009),
-    Case::sample(2000, 500_000),
-    Case::sample(2000, 499_999),
-    Case::sample(20_000, 1 << 31),
-    Case::sample(100_000, u32::MAX),
-    Case::Shuffle { len: 10 },
-    Case::Shuffle { len: 1000 },
-    Case::Shuffle { len: 100_000 },
-    Case::Shuffle { len: 1_000_000 },
-    Case::PartialShuffle {
-        amount: 100,
-        len: 100_000,
-    },
-    Case::Fill {
-        slots: 100,
-        items: 10_000,
-    },
-    Case::Fill {
-        slots: 100,
-        items: 100_000,
-    },
-    Case::weights(Work::New, 1000),
-    Case::weights(Work::Change, 1000),
-    Case::weights(Work::Lookup, 1000),
-    Case::weights(Work::Pick, 10),
-    Case::weights(Work::Pick, 1000),
-    Case::weights(Work::Pick, 100_000),
-    Case::choice(Choice::CHOOSE, 1000),
-    Case::choice(Choice::CHOOSE_EXACT, 1000),
-    Case::choice(Choice::STABLE, 1000),
-    Case::choice(Choice::STABLE_EXACT, 1000),
-    Case::NextU32,
-    Case::view(100, 10_000),
+/// A table: its title and its cases.
+type Group = (&'static str, fn() -> Vec<Case>);
+
+/// The tables, in the order in which they are printed.
+const GROUPS: [Group; 6] = [
+    ("`sample` of indices", samples::cases),
+    ("Shuffles and the reservoir", shuffles::cases),
+    ("The weight table", weights::cases),
+    ("Choosers", choices::cases),
+    ("Generators", generators::cases),
+    ("Views", views::cases),
 ];
 
-/// A case that is measured once and apart: the port's filter is too small for it.
-const LARGE: Case = Case::sample(1_000_000, u32::MAX);
-
-/// Blocks of the table's cases.
+/// The time of a run.
 const PLAN: Plan = Plan {
-    blocks: 60,
-    block: Duration::from_millis(20),
+    time: Duration::from_millis(1500),
+    block: Duration::from_millis(1),
 };
 
 /// The same, for a first look.
 const QUICK: Plan = Plan {
-    blocks: 6,
-    block: Duration::from_millis(4),
-};
-
-/// One call.
-const ONCE: Plan = Plan {
-    blocks: 0,
-    block: Duration::ZERO,
+    time: Duration::from_millis(40),
+    ..PLAN
 };
 
 fn main() -> ExitCode {
-    let words: Vec<String> = env::args().skip(1).collect();
-    let words: Vec<&str> = words.iter().map(String::as_str).collect();
-    let (plan, is_quick) = match words[..] {
-        [] => (PLAN, false),
-        ["--quick"] => (QUICK, true),
-        _ => {
-            eprintln!("usage: bench [--quick]");
-            return ExitCode::from(2);
+    let mut plan = PLAN;
+    let mut part = None;
+    for word in env::args().skip(1) {
+        match word.as_str() {
+            "--quick" => plan = QUICK,
+            _ if word.starts_with('-') || part.is_some() => return usage(),
+            _ => part = Some(word),
         }
-    };
-    println!("Best of {} blocks for each side, in turn.\n", plan.blocks);
-    table::print(&CASES, &plan);
-    if is_quick {
-        return ExitCode::SUCCESS;
     }
-    println!("\nOnce:\n");
-    table::print(&[LARGE], &ONCE);
+    let part = part.unwrap_or_default();
+    let groups = selected(&part);
+    if groups.is_empty() {
+        eprintln!("bench: no case has {part} in its name");
+        return ExitCode::from(2);
+    }
+    println!(
+        "Nanoseconds a call; the ratio is ours to rand's. Medians of the blocks of each side, which take turns for {:?} a case.",
+        plan.time
+    );
+    for (title, cases) in groups {
+        table::print(title, &cases, &plan);
+    }
     ExitCode::SUCCESS
+}
+
+fn usage() -> ExitCode {
+    eprintln!("usage: bench [--quick] [PART OF A CASE'S NAME]");
+    ExitCode::from(2)
+}
+
+/// The cases with this in their names, by their tables.
+fn selected(part: &str) -> Vec<(&'static str, Vec<Case>)> {
+    let groups = GROUPS.into_iter().map(|(title, cases)| {
+        let mut cases = cases();
+        cases.retain(|case| case.name().contains(part));
+        (title, cases)
+    });
+    groups.filter(|(_, cases)| !cases.is_empty()).collect()
+}
+
+#[cfg(test)]
+mod tests {
+    use std::collections::HashSet;
+
+    use super::selected;
+
+    /// To make the sides is to hold their first calls to each other.
+    #[test]
+    fn the_sides_of_every_case_give_the_same() {
+        for case in selected("").iter().flat_map(|(_, cases)| cases) {
+            (case.sides)();
+        }
+    }
+
+    #[test]
+    fn cases_are_selected_by_a_part_of_their_names() {
+        let names = |part| {
+            let groups = selected(part);
+            let cases = groups.iter().flat_map(|(_, cases)| cases);
+            cases.map(|case| case.name()).collect::<Vec<_>>()
+        };
+        assert_eq!(names("Floyd").len(), 3);
+        assert_eq!(
+            names("partial_shuffle, 10 of"),
+            ["partial_shuffle, 10 of 1,000 items"]
+        );
+        assert!(names("no such case").is_empty());
+        let all = names("");
+        assert_eq!(all.iter().collect::<HashSet<_>>().len(), all.len());
+    }
 }

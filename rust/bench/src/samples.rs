@@ -1,103 +1,73 @@
-//! Samples of indices.
+//! Samples of indices. rand returns its indices in a vector of its own; the port is lent the same two slices again and again.
 
-use std::hint::black_box;
+use gapyndura::index;
+use reference::methods::{Method, due, scratch};
 
-use gapyndura::Xoshiro256PlusPlus as Port;
-use rand::rngs::Xoshiro256PlusPlus as Rand;
-use rand::seq::index;
-use reference::methods::{Method, due};
-use reference::{State, from_state, state};
+use crate::numbers::grouped;
+use crate::sides::{Case, Sides, ours, theirs};
 
-use crate::sides::Side;
+/// Amounts and lengths, by the method that is due.
+const SAMPLES: [(u32, u32); 11] = [
+    (5, 100),
+    (12, 351),
+    (162, 10_000_000),
+    (12, 350),
+    (100, 10_000),
+    (163, 44_009),
+    (2000, 499_999),
+    (163, 44_010),
+    (2000, 500_000),
+    (20_000, 1 << 31),
+    (100_000, u32::MAX),
+];
 
-/// A sample of so many indices below a length.
-#[derive(Clone, Copy, Debug)]
-pub struct Sample {
-    pub amount: u32,
-    pub length: u32,
+pub fn cases() -> Vec<Case> {
+    SAMPLES.map(|(amount, length)| case(amount, length)).into()
 }
 
-impl Sample {
-    pub const fn new(amount: u32, length: u32) -> Self {
-        Self { amount, length }
-    }
-
-    /// The method by which both sides draw it.
-    pub fn method(self) -> Method {
-        due(self.length, self.amount)
-    }
-
-    /// The entries of scratch that the port needs.
-    pub fn scratch(self) -> usize {
-        match self.method() {
-            Method::InPlace => self.length as usize,
-            _ => 0,
-        }
-    }
-}
-
-/// rand, which returns its indices in a vector of its own.
-pub struct Theirs {
-    sample: Sample,
-    rng: Rand,
-}
-
-impl Theirs {
-    pub fn new(sample: Sample) -> Self {
-        let rng = from_state([1, 2, 3, 4]);
-        Self { sample, rng }
+fn case(amount: u32, length: u32) -> Case {
+    let size = format!("{} of {}", grouped(amount.into()), power_or_digits(length));
+    let entries = amount as usize + scratch(length, amount);
+    Case {
+        lent: Some(entries * size_of::<u32>()),
+        ..Case::new(call(amount, length), size, move || sides(amount, length))
     }
 }
 
-impl Side for Theirs {
-    fn start(&mut self, from: State) {
-        self.rng = from_state(from);
-    }
-
-    fn draw(&mut self) {
-        let (length, amount) = (self.sample.length as usize, self.sample.amount as usize);
-        black_box(index::sample(&mut self.rng, length, amount));
-    }
-
-    fn state(&self) -> State {
-        state(&self.rng)
+/// The call with the method by which both sides draw.
+fn call(amount: u32, length: u32) -> &'static str {
+    match due(length, amount) {
+        Method::Floyd => "`sample` (Floyd)",
+        Method::InPlace => "`sample` (in place)",
+        Method::Rejection => "`sample` (rejection)",
     }
 }
 
-/// The port, which is lent the same two slices again and again.
-pub struct Ours {
-    sample: Sample,
-    rng: Port,
-    indices: Vec<u32>,
-    scratch: Vec<u32>,
-}
-
-impl Ours {
-    pub fn new(sample: Sample) -> Self {
-        Self {
-            sample,
-            rng: Port::from_state([1, 2, 3, 4]),
-            indices: vec![0; sample.amount as usize],
-            scratch: vec![0; sample.scratch()],
-        }
+fn power_or_digits(length: u32) -> String {
+    match length {
+        u32::MAX => "2^32 − 1".to_owned(),
+        _ if length > 1 << 24 && length.is_power_of_two() => format!("2^{}", length.ilog2()),
+        _ => grouped(length.into()),
     }
 }
 
-impl Side for Ours {
-    fn start(&mut self, from: State) {
-        self.rng = Port::from_state(from);
-    }
-
-    fn draw(&mut self) {
-        let (length, amount) = (self.sample.length.into(), self.sample.amount.into());
-        let (indices, scratch) = (&mut self.indices, &mut self.scratch);
-        let result =
-            gapyndura::index::sample(&mut self.rng, length, amount, u64::MAX, indices, scratch);
-        result.expect("the slices and the budget suffice");
-        black_box(&self.indices);
-    }
-
-    fn state(&self) -> State {
-        self.rng.state()
-    }
+fn sides(amount: u32, length: u32) -> Sides {
+    let indices = vec![0; amount as usize];
+    let scratch = vec![0; scratch(length, amount)];
+    Sides::new(
+        theirs(
+            (length as usize, amount as usize),
+            |rng, (length, amount)| rand::seq::index::sample(rng, *length, *amount),
+            // An index below a length of 32 bits has no more.
+            |_, drawn| drawn.into_iter().map(|index| index as u32).collect(),
+        ),
+        ours(
+            (u64::from(length), u64::from(amount), indices, scratch),
+            |rng, (length, amount, indices, scratch)| {
+                let sampled = index::sample(rng, *length, *amount, u64::MAX, indices, scratch);
+                sampled.expect("the slices and the budget suffice")
+            },
+            |(.., indices, _), _| indices.clone(),
+        ),
+    )
 }

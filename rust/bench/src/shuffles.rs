@@ -1,85 +1,83 @@
-//! Shuffles. Each side has a slice of its own, which it shuffles again and again.
+//! Shuffles, and fills from items that are read once. Each side has a slice of its own, which it shuffles or fills again and again.
 
 use std::hint::black_box;
 
-use gapyndura::Xoshiro256PlusPlus as Port;
-use gapyndura::slice;
-use rand::rngs::Xoshiro256PlusPlus as Rand;
-use rand::seq::SliceRandom;
-use reference::{State, from_state, state};
+use gapyndura::{iterator, slice};
+use rand::seq::{IteratorRandom, SliceRandom};
 
-use crate::sides::Side;
+use crate::numbers::{counting, grouped, so_many_of};
+use crate::sides::{Case, Sides, ours, theirs};
 
-/// rand.
-pub struct Theirs {
-    /// None where the whole slice is shuffled.
-    amount: Option<usize>,
-    rng: Rand,
-    items: Vec<u32>,
+/// The port refuses a generator of zeros and too long a slice.
+const DRAWN: &str = "a generator and a slice that are good";
+
+pub fn cases() -> Vec<Case> {
+    let mut cases = Vec::new();
+    for len in [10, 100, 1000, 100_000, 1_000_000] {
+        let size = format!("{} items", grouped(len as u64));
+        cases.push(Case::new("`shuffle`", size, move || shuffle(len)));
+    }
+    for (amount, len) in [(10, 1000), (100, 100_000)] {
+        let sides = move || partial_shuffle(amount, len);
+        cases.push(Case::new(
+            "`partial_shuffle`",
+            so_many_of(amount, len),
+            sides,
+        ));
+    }
+    for (slots, items) in [(10, 100), (100, 10_000), (100, 100_000)] {
+        let sides = move || fill(slots, items);
+        cases.push(Case::new("`sample_fill`", so_many_of(slots, items), sides));
+    }
+    cases
 }
 
-impl Theirs {
-    pub fn new(len: usize, amount: Option<usize>) -> Self {
-        Self {
-            amount,
-            rng: from_state([1, 2, 3, 4]),
-            items: (0..).take(len).collect(),
-        }
-    }
+fn shuffle(len: usize) -> Sides {
+    Sides::new(
+        theirs(
+            counting(len),
+            |rng, items| items.shuffle(rng),
+            |items, ()| items.clone(),
+        ),
+        ours(
+            counting(len),
+            |rng, items| slice::shuffle(rng, items).expect(DRAWN).words,
+            |items, _| items.clone(),
+        ),
+    )
 }
 
-impl Side for Theirs {
-    fn start(&mut self, from: State) {
-        self.rng = from_state(from);
-    }
-
-    fn draw(&mut self) {
-        match self.amount {
-            Some(amount) => {
-                black_box(self.items.partial_shuffle(&mut self.rng, amount));
-            }
-            None => self.items.shuffle(&mut self.rng),
-        }
-        black_box(&self.items);
-    }
-
-    fn state(&self) -> State {
-        state(&self.rng)
-    }
+fn partial_shuffle(amount: usize, len: usize) -> Sides {
+    Sides::new(
+        theirs(
+            (counting(len), amount),
+            |rng, (items, amount)| {
+                black_box(items.partial_shuffle(rng, *amount));
+            },
+            |(items, _), ()| items.clone(),
+        ),
+        ours(
+            (counting(len), amount as u64),
+            |rng, (items, amount)| {
+                black_box(slice::partial_shuffle(rng, items, *amount).expect(DRAWN));
+            },
+            |(items, _), ()| items.clone(),
+        ),
+    )
 }
 
-/// The port.
-pub struct Ours {
-    amount: Option<usize>,
-    rng: Port,
-    items: Vec<u32>,
-}
-
-impl Ours {
-    pub fn new(len: usize, amount: Option<usize>) -> Self {
-        Self {
-            amount,
-            rng: Port::from_state([1, 2, 3, 4]),
-            items: (0..).take(len).collect(),
-        }
-    }
-}
-
-impl Side for Ours {
-    fn start(&mut self, from: State) {
-        self.rng = Port::from_state(from);
-    }
-
-    fn draw(&mut self) {
-        let result = match self.amount {
-            Some(amount) => slice::partial_shuffle(&mut self.rng, &mut self.items, amount as u64),
-            None => slice::shuffle(&mut self.rng, &mut self.items),
-        };
-        black_box(result.expect("the generator is none of zeros"));
-        black_box(&self.items);
-    }
-
-    fn state(&self) -> State {
-        self.rng.state()
-    }
+fn fill(slots: usize, items: usize) -> Sides {
+    let lent = (counting(items), vec![0; slots]);
+    Sides::new(
+        theirs(
+            lent.clone(),
+            |rng, (items, buf)| items.iter().copied().sample_fill(rng, buf),
+            |(_, buf), count| (buf.clone(), count),
+        ),
+        ours(
+            lent,
+            |rng, (items, buf)| iterator::sample_fill(rng, items, buf).expect(DRAWN),
+            |(_, buf), filled| (buf.clone(), filled.count),
+        ),
+    )
 }

@@ -1,142 +1,216 @@
-//! The cases, and the two sides of each.
+//! The two sides of a case: the same call with the same inputs, by rand and by the port.
 
-use reference::State;
-use reference::methods::Method;
+use std::fmt::Debug;
+use std::hint::black_box;
+use std::time::{Duration, Instant};
 
-use crate::choices::{self, Choice};
-use crate::samples::{self, Sample};
-use crate::weights::{self, Work};
-use crate::{fills, lent, shuffles};
+use gapyndura::Xoshiro256PlusPlus as Port;
+use rand::rngs::Xoshiro256PlusPlus as Rand;
+use reference::{State, from_state, state};
 
-/// What is measured.
-#[derive(Clone, Copy, Debug)]
-pub enum Case {
-    /// A sample of indices.
-    Sample(Sample),
-    /// A shuffle of so many items.
-    Shuffle { len: usize },
-    /// A shuffle of so many items to the end.
-    PartialShuffle { amount: usize, len: usize },
-    /// A fill of so many slots from so many items.
-    Fill { slots: usize, items: usize },
-    /// A call on a table of so many weights.
-    Weights { work: Work, count: usize },
-    /// A choice from so many items.
-    Choice { choice: Choice, items: usize },
-    /// One word of a lent generator.
-    NextU32,
-    /// A view of drawn items, run through.
-    View(Sample),
-}
+use crate::allocation::{Allocated, allocated};
 
-/// A side of a case.
-pub trait Side {
-    /// Starts again from this state.
-    fn start(&mut self, from: State);
+/// Where the first call of both sides starts.
+const FIRST: State = [1, 2, 3, 4];
 
-    /// Makes one call.
-    fn draw(&mut self);
+/// A generator of either side.
+pub trait Generator: Clone {
+    fn from_state(from: State) -> Self;
 
-    /// The state that it has come to.
     fn state(&self) -> State;
 }
 
-impl Case {
-    pub const fn sample(amount: u32, length: u32) -> Self {
-        Self::Sample(Sample::new(amount, length))
+impl Generator for Rand {
+    fn from_state(from: State) -> Self {
+        from_state(from)
     }
 
-    pub const fn view(amount: u32, items: u32) -> Self {
-        Self::View(Sample::new(amount, items))
+    fn state(&self) -> State {
+        state(self)
+    }
+}
+
+impl Generator for Port {
+    fn from_state(from: State) -> Self {
+        Self::from_state(from)
     }
 
-    pub const fn weights(work: Work, count: usize) -> Self {
-        Self::Weights { work, count }
+    fn state(&self) -> State {
+        self.state()
     }
+}
 
-    pub const fn choice(choice: Choice, items: usize) -> Self {
-        Self::Choice { choice, items }
-    }
+/// A call of one side, with its generator and all that it is lent.
+pub struct Side<G, L, C, S> {
+    rng: G,
+    lent: L,
+    call: C,
+    /// What a call has given, to be compared: its answer, or what it has written.
+    seen: S,
+}
 
-    /// rand's side and the port's.
-    pub fn sides(self) -> [Box<dyn Side>; 2] {
-        match self {
-            Self::Sample(sample) => [
-                Box::new(samples::Theirs::new(sample)),
-                Box::new(samples::Ours::new(sample)),
-            ],
-            Self::Shuffle { len } => [
-                Box::new(shuffles::Theirs::new(len, None)),
-                Box::new(shuffles::Ours::new(len, None)),
-            ],
-            Self::PartialShuffle { amount, len } => [
-                Box::new(shuffles::Theirs::new(len, Some(amount))),
-                Box::new(shuffles::Ours::new(len, Some(amount))),
-            ],
-            Self::Fill { slots, items } => [
-                Box::new(fills::Theirs::new(slots, items)),
-                Box::new(fills::Ours::new(slots, items)),
-            ],
-            Self::Weights { work, count } => [
-                Box::new(weights::Theirs::new(work, count)),
-                Box::new(weights::Ours::new(work, count)),
-            ],
-            Self::Choice { choice, items } => [
-                Box::new(choices::Theirs::new(choice, items)),
-                Box::new(choices::Ours::new(choice, items)),
-            ],
-            Self::NextU32 => [
-                Box::new(lent::TheirWord::new()),
-                Box::new(lent::OurWord::new()),
-            ],
-            Self::View(view) => [
-                Box::new(lent::TheirView::new(view)),
-                Box::new(lent::OurView::new(view)),
-            ],
+/// rand's side.
+pub fn theirs<L, C, S, A, T>(lent: L, call: C, seen: S) -> Side<Rand, L, C, S>
+where
+    C: Fn(&mut Rand, &mut L) -> A,
+    S: Fn(&L, A) -> T,
+{
+    Side::new(lent, call, seen)
+}
+
+/// The port's side.
+pub fn ours<L, C, S, A, T>(lent: L, call: C, seen: S) -> Side<Port, L, C, S>
+where
+    C: Fn(&mut Port, &mut L) -> A,
+    S: Fn(&L, A) -> T,
+{
+    Side::new(lent, call, seen)
+}
+
+/// Sees the answer itself.
+pub fn answer<L, A>(_: &L, answer: A) -> A {
+    answer
+}
+
+impl<G: Generator, L, C, S> Side<G, L, C, S> {
+    fn new(lent: L, call: C, seen: S) -> Self {
+        Self {
+            rng: G::from_state(FIRST),
+            lent,
+            call,
+            seen,
         }
     }
 
-    /// The numbers of the case: how many of how many. A whole shuffle, a table, a choice and a word have one.
-    pub fn sizes(self) -> (Option<u64>, u64) {
-        match self {
-            Self::Sample(sample) | Self::View(sample) => {
-                (Some(sample.amount.into()), sample.length.into())
+    /// Makes the first call: what is seen of it, and what it allocates.
+    fn first<A, T>(&mut self) -> (T, Allocated)
+    where
+        C: Fn(&mut G, &mut L) -> A,
+        S: Fn(&L, A) -> T,
+    {
+        let (answer, heap) = allocated(|| (self.call)(&mut self.rng, &mut self.lent));
+        ((self.seen)(&self.lent, answer), heap)
+    }
+}
+
+/// What can be timed.
+pub trait Timed {
+    /// The time that so many calls from this state take, made so many times over.
+    fn time(&mut self, from: State, calls: u32, rounds: u32) -> Duration;
+
+    /// The state that the last call has left.
+    fn state(&self) -> State;
+}
+
+impl<G, L, C, S, A> Timed for Side<G, L, C, S>
+where
+    G: Generator,
+    C: Fn(&mut G, &mut L) -> A,
+{
+    fn time(&mut self, from: State, calls: u32, rounds: u32) -> Duration {
+        let start = G::from_state(from);
+        let started = Instant::now();
+        for _ in 0..rounds {
+            let mut rng = start.clone();
+            for _ in 0..calls {
+                // Nothing is known of what is lent, and any of it may be read afterwards. An answer that owns memory gives it back.
+                black_box((self.call)(&mut rng, black_box(&mut self.lent)));
             }
-            Self::Shuffle { len } => (None, len as u64),
-            Self::PartialShuffle { amount, len } => (Some(amount as u64), len as u64),
-            Self::Fill { slots, items } => (Some(slots as u64), items as u64),
-            Self::Weights { count, .. } => (None, count as u64),
-            Self::Choice { items, .. } => (None, items as u64),
-            Self::NextU32 => (None, 1),
+            self.rng = rng;
+        }
+        started.elapsed()
+    }
+
+    fn state(&self) -> State {
+        self.rng.state()
+    }
+}
+
+/// Both sides, and what the first call of each has allocated: rand's and then the port's.
+pub struct Sides {
+    pub timed: [Box<dyn Timed>; 2],
+    pub heap: [Allocated; 2],
+}
+
+impl Sides {
+    /// Makes a first call of each side.
+    ///
+    /// # Panics
+    ///
+    /// If they do not give the same, or if the port allocates.
+    pub fn new<L, C, S, A, M, D, U, B, T>(
+        mut theirs: Side<Rand, L, C, S>,
+        mut ours: Side<Port, M, D, U>,
+    ) -> Self
+    where
+        L: 'static,
+        M: 'static,
+        C: Fn(&mut Rand, &mut L) -> A + 'static,
+        D: Fn(&mut Port, &mut M) -> B + 'static,
+        S: Fn(&L, A) -> T + 'static,
+        U: Fn(&M, B) -> T + 'static,
+        T: PartialEq + Debug,
+    {
+        let (rand, rand_heap) = theirs.first();
+        let (port, port_heap) = ours.first();
+        assert_eq!(port, rand, "both sides give the same");
+        assert_eq!(port_heap.times, 0, "the port allocates nothing");
+        Self {
+            timed: [Box::new(theirs), Box::new(ours)],
+            heap: [rand_heap, port_heap],
         }
     }
 
-    /// The call, or of a sample the method by which both sides draw it.
-    pub fn method(self) -> &'static str {
-        match self {
-            Self::Sample(sample) => match sample.method() {
-                Method::Floyd => "Floyd",
-                Method::InPlace => "in place",
-                Method::Rejection => "rejection",
-            },
-            Self::Shuffle { .. } => "shuffle",
-            Self::PartialShuffle { .. } => "partial shuffle",
-            Self::Fill { .. } => "fill",
-            Self::Weights { work, .. } => work.name(),
-            Self::Choice { choice, .. } => choice.name(),
-            Self::NextU32 => "next_u32",
-            Self::View(_) => "view, run through",
+    /// The times of so many calls from this state, made as many times over as each side's number says. The side of that number
+    /// goes first.
+    ///
+    /// # Panics
+    ///
+    /// If the sides come to different states.
+    pub fn times(
+        &mut self,
+        from: State,
+        calls: u32,
+        rounds: [u32; 2],
+        first: usize,
+    ) -> [Duration; 2] {
+        let mut times = [Duration::ZERO; 2];
+        for side in [first, 1 - first] {
+            times[side] = self.timed[side].time(from, calls, rounds[side]);
+        }
+        let [rand, port] = self.timed.each_ref().map(|side| side.state());
+        assert_eq!(port, rand, "both sides read the same words");
+        times
+    }
+}
+
+/// A case of a table.
+pub struct Case {
+    /// The call, and of a sample the method.
+    pub call: &'static str,
+    /// How large it is.
+    pub size: String,
+    /// The bytes that the port is lent to write, where the table tells of memory.
+    pub lent: Option<usize>,
+    pub sides: Box<dyn Fn() -> Sides>,
+}
+
+impl Case {
+    pub fn new(
+        call: &'static str,
+        size: impl Into<String>,
+        sides: impl Fn() -> Sides + 'static,
+    ) -> Self {
+        Self {
+            call,
+            size: size.into(),
+            lent: None,
+            sides: Box::new(sides),
         }
     }
 
-    /// The entries that the port is lent to write.
-    pub fn lent(self) -> usize {
-        match self {
-            Self::Sample(sample) | Self::View(sample) => sample.amount as usize + sample.scratch(),
-            Self::Shuffle { len } | Self::PartialShuffle { len, .. } => len,
-            Self::Fill { slots, .. } => slots,
-            Self::Weights { count, .. } => count - 1,
-            Self::Choice { .. } | Self::NextU32 => 0,
-        }
+    /// The name by which it is selected.
+    pub fn name(&self) -> String {
+        format!("{}, {}", self.call.replace('`', ""), self.size)
     }
 }

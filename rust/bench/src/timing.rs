@@ -2,47 +2,105 @@
 
 use std::time::{Duration, Instant};
 
-use rand::SeedableRng;
-use rand::rngs::Xoshiro256PlusPlus;
-use reference::state;
+use reference::some_state;
 
-use crate::sides::Side;
+use crate::sides::Sides;
 
-/// How long is measured. The machine may do other things at the same time, so there are many short blocks, and the best counts.
+/// How long is measured. The machine may do other things at the same time, and may be faster at one time than at another: so there are many
+/// blocks, each side's is compared with its neighbour alone, and the median of these ratios counts. They are shorter than the time for which
+/// an operating system lets other work have the processor, so that most are not interrupted.
 pub struct Plan {
-    /// The blocks of each side, after a first call. There may be none.
-    pub blocks: u64,
-    /// The time of a block of the slower side. A block has one call or more.
+    /// The time that the blocks of a case take together, unless they are the fewest.
+    pub time: Duration,
+    /// The time that a block of the slower side has at most, unless one call takes more, and half of which it has at least.
     pub block: Duration,
 }
 
+/// The fewest blocks of each side.
+const FEWEST: u64 = 15;
+
+/// The faster side's block has at least this part of a block's time.
+const LEAST: u32 = 10;
+
+/// How often a time is taken to find out how many calls a block has, so that none counts in which other work had the processor.
+const TRIES: usize = 3;
+
+/// The medians of all blocks: of the nanoseconds that a call takes on each side, and of the ratio of neighbouring blocks.
+pub struct Measured {
+    pub rand: f64,
+    pub port: f64,
+    pub ratio: f64,
+}
+
+/// What a block has: so many calls, and how many times over each side makes them.
+struct Block {
+    calls: u32,
+    rounds: [u32; 2],
+}
+
 impl Plan {
-    /// The nanoseconds that a call takes on each side in its best block, the first call being one. Both have the same states in
-    /// the same blocks, and the one that goes first takes turns.
-    pub fn best(&self, sides: [&mut dyn Side; 2], first: [f64; 2]) -> [f64; 2] {
-        let [theirs, ours] = sides;
-        assert_eq!(theirs.state(), ours.state(), "both sides read the same");
-        let mut best = first;
-        for block in 0..self.blocks {
-            let slower = best[0].max(best[1]);
-            let calls = (self.block.as_nanos() as f64 / slower).ceil();
-            let order = if block % 2 == 0 { [0, 1] } else { [1, 0] };
-            for side in order {
-                let drawn: &mut dyn Side = if side == 0 { theirs } else { ours };
-                best[side] = best[side].min(nanoseconds(drawn, block, calls as u32));
-            }
-            assert_eq!(theirs.state(), ours.state(), "both sides read the same");
+    /// Measures both sides. In a block they have the same state and make the same calls, and the side that goes first takes turns.
+    pub fn measure(&self, sides: &mut Sides) -> Measured {
+        let Block { calls, rounds } = self.block(sides);
+        let mut rand = Vec::new();
+        let mut port = Vec::new();
+        let started = Instant::now();
+        for block in (0..).take_while(|&block| block < FEWEST || started.elapsed() < self.time) {
+            let times = sides.times(some_state(block), calls, rounds, block as usize % 2);
+            let nanoseconds = |side: usize| {
+                times[side].as_nanos() as f64 / f64::from(calls) / f64::from(rounds[side])
+            };
+            rand.push(nanoseconds(0));
+            port.push(nanoseconds(1));
         }
-        best
+        let ratios = port.iter().zip(&rand).map(|(port, rand)| port / rand);
+        Measured {
+            ratio: median(ratios.collect()),
+            rand: median(rand),
+            port: median(port),
+        }
+    }
+
+    /// Doubles the calls until the slower side takes half a block. A side that is far faster makes them many times over: a time of
+    /// few nanoseconds cannot be read, and most of it would be what the other side has pushed out of the caches.
+    fn block(&self, sides: &mut Sides) -> Block {
+        let mut calls = 1;
+        loop {
+            let tries = [(); TRIES].map(|()| sides.times(some_state(0), calls, [1, 1], 0));
+            let least = |side: usize| {
+                let times = tries.iter().map(|times| times[side]);
+                times.fold(Duration::MAX, Duration::min)
+            };
+            let times = [least(0), least(1)];
+            let slower = times[0].max(times[1]);
+            if slower >= self.block / 2 {
+                let short = (self.block / LEAST).as_nanos();
+                let rounds = times.map(|time| short.div_ceil(time.as_nanos().max(1)) as u32);
+                return Block { calls, rounds };
+            }
+            calls *= 2;
+        }
     }
 }
 
-/// The nanoseconds that each of so many calls takes, from the state of this number.
-pub fn nanoseconds(side: &mut dyn Side, number: u64, calls: u32) -> f64 {
-    side.start(state(&Xoshiro256PlusPlus::seed_from_u64(number)));
-    let started = Instant::now();
-    for _ in 0..calls {
-        side.draw();
+/// The middle of these numbers, or the mean of the two in the middle.
+fn median(mut numbers: Vec<f64>) -> f64 {
+    numbers.sort_by(f64::total_cmp);
+    let middle = numbers.len() / 2;
+    match numbers.len() % 2 {
+        0 => f64::midpoint(numbers[middle - 1], numbers[middle]),
+        _ => numbers[middle],
     }
-    started.elapsed().as_nanos() as f64 / f64::from(calls)
+}
+
+#[cfg(test)]
+mod tests {
+    use super::median;
+
+    #[test]
+    fn the_median_is_the_middle_of_the_sorted_numbers() {
+        assert_eq!(median(vec![5.0]), 5.0);
+        assert_eq!(median(vec![9.0, 1.0, 2.0]), 2.0);
+        assert_eq!(median(vec![4.0, 1.0, 100.0, 2.0]), 3.0);
+    }
 }

@@ -1,39 +1,34 @@
 //! Tables of weights: new ones, changes of one place, lookups and picks.
 
-use std::hint::black_box;
-
-use gapyndura::Xoshiro256PlusPlus as Port;
 use gapyndura::weighted_index::WeightedIndex as PortTable;
 use rand::distr::Distribution;
 use rand::distr::weighted::WeightedIndex as RandTable;
-use rand::rngs::Xoshiro256PlusPlus as Rand;
-use reference::{State, from_state, state};
 
-use crate::sides::Side;
+use crate::numbers::grouped;
+use crate::sides::{Case, Sides, answer, ours, theirs};
 
-/// What is done with a table.
-#[derive(Clone, Copy, Debug)]
-pub enum Work {
-    /// It is made.
-    New,
-    /// The weight in the middle is changed, to one of two in turn.
-    Change,
-    /// The weight in the middle is looked up.
-    Lookup,
-    /// An item is picked.
-    Pick,
-}
+/// How many weights the tables have.
+const COUNTS: [usize; 3] = [10, 1000, 100_000];
 
-impl Work {
-    /// The call.
-    pub fn name(self) -> &'static str {
-        match self {
-            Self::New => "new",
-            Self::Change => "update_weights",
-            Self::Lookup => "weight",
-            Self::Pick => "sample",
+/// The weights are good, and so are the tables made of them.
+const GOOD: &str = "a good table";
+
+pub fn cases() -> Vec<Case> {
+    type Work = (&'static str, &'static str, fn(usize) -> Sides);
+    let works: [Work; 4] = [
+        ("`new`", "", new),
+        ("`update_weights`", "one place, in the middle, of ", change),
+        ("`weight`", "one place, in the middle, of ", lookup),
+        ("`sample` (pick)", "", pick),
+    ];
+    let mut cases = Vec::new();
+    for (call, of, sides) in works {
+        for count in COUNTS {
+            let size = format!("{of}{} weights", grouped(count as u64));
+            cases.push(Case::new(call, size, move || sides(count)));
         }
     }
+    cases
 }
 
 /// So many weights, from 1 to 10.
@@ -41,123 +36,87 @@ fn weights(count: usize) -> Vec<u32> {
     (0..).map(|i: u32| 1 + i * 7 % 10).take(count).collect()
 }
 
-/// The next weight for the place in the middle.
-fn other(weight: u32) -> u32 {
-    12 - weight
+fn rand_table(count: usize) -> RandTable<u32> {
+    RandTable::new(weights(count)).expect(GOOD)
 }
 
-/// rand.
-pub struct Theirs {
-    work: Work,
-    rng: Rand,
-    weights: Vec<u32>,
-    table: RandTable<u32>,
-    weight: u32,
+/// The port's table with its sums.
+fn port_table(count: usize) -> (PortTable, Vec<u32>) {
+    let mut sums = vec![0; count - 1];
+    let table = PortTable::new(&weights(count), &mut sums).expect(GOOD);
+    (table, sums)
 }
 
-impl Theirs {
-    pub fn new(work: Work, count: usize) -> Self {
-        let weights = weights(count);
-        let table = RandTable::new(&weights).expect("a table");
-        Self {
-            work,
-            rng: from_state([1, 2, 3, 4]),
-            weights,
-            table,
-            weight: 5,
-        }
-    }
+/// The weights of the port's table.
+fn differences(table: PortTable, sums: &[u32]) -> Vec<u32> {
+    let ends = sums.iter().chain([&table.total_weight]);
+    let starts = [0].iter().chain(sums);
+    ends.zip(starts).map(|(end, start)| end - start).collect()
 }
 
-impl Side for Theirs {
-    fn start(&mut self, from: State) {
-        self.rng = from_state(from);
-    }
-
-    fn draw(&mut self) {
-        let middle = black_box(self.weights.len() / 2);
-        match self.work {
-            Work::New => {
-                let table = RandTable::<u32>::new(black_box(&self.weights));
-                black_box(table.expect("a table"));
-            }
-            Work::Change => {
-                self.weight = other(self.weight);
-                let changed = self.table.update_weights(&[(middle, &self.weight)]);
-                changed.expect("a change");
-            }
-            Work::Lookup => {
-                black_box(self.table.weight(middle));
-            }
-            Work::Pick => {
-                black_box(self.table.sample(&mut self.rng));
-            }
-        }
-        black_box(&self.table);
-    }
-
-    fn state(&self) -> State {
-        state(&self.rng)
-    }
+fn new(count: usize) -> Sides {
+    Sides::new(
+        theirs(
+            weights(count),
+            |_, weights| RandTable::<u32>::new(&*weights).expect(GOOD),
+            |_, table| table.weights().collect(),
+        ),
+        ours(
+            (weights(count), vec![0; count - 1]),
+            |_, (weights, sums)| PortTable::new(weights, sums).expect(GOOD),
+            |(_, sums), table| differences(table, sums),
+        ),
+    )
 }
 
-/// The port.
-pub struct Ours {
-    work: Work,
-    rng: Port,
-    weights: Vec<u32>,
-    table: PortTable,
-    sums: Vec<u32>,
-    weight: u32,
+/// The weight in the middle becomes one of two in turn.
+fn change(count: usize) -> Sides {
+    let other = |weight: u32| 12 - weight;
+    let (table, sums) = port_table(count);
+    Sides::new(
+        theirs(
+            (rand_table(count), count / 2, 5),
+            move |_, (table, middle, weight)| {
+                *weight = other(*weight);
+                table.update_weights(&[(*middle, &*weight)]).expect(GOOD);
+            },
+            |(table, ..), ()| table.weights().collect(),
+        ),
+        ours(
+            (table, sums, count as u64 / 2, 5),
+            move |_, (table, sums, middle, weight)| {
+                *weight = other(*weight);
+                let changed = table.update_weights(sums, &[*middle], &[*weight]);
+                changed.expect(GOOD);
+            },
+            |(table, sums, ..), ()| differences(*table, sums),
+        ),
+    )
 }
 
-impl Ours {
-    pub fn new(work: Work, count: usize) -> Self {
-        let weights = weights(count);
-        let mut sums = vec![0; count - 1];
-        let table = PortTable::new(&weights, &mut sums).expect("a table");
-        Self {
-            work,
-            rng: Port::from_state([1, 2, 3, 4]),
-            weights,
-            table,
-            sums,
-            weight: 5,
-        }
-    }
+fn lookup(count: usize) -> Sides {
+    let (table, sums) = port_table(count);
+    Sides::new(
+        theirs(
+            (rand_table(count), count / 2),
+            |_, (table, middle)| table.weight(*middle),
+            answer,
+        ),
+        ours(
+            (table, sums, count as u64 / 2),
+            |_, (table, sums, middle)| table.weight(sums, *middle).expect(GOOD),
+            answer,
+        ),
+    )
 }
 
-impl Side for Ours {
-    fn start(&mut self, from: State) {
-        self.rng = Port::from_state(from);
-    }
-
-    fn draw(&mut self) {
-        let middle = black_box(self.weights.len() / 2) as u64;
-        match self.work {
-            Work::New => {
-                let table = PortTable::new(black_box(&self.weights), &mut self.sums);
-                black_box(table.expect("a table"));
-            }
-            Work::Change => {
-                self.weight = other(self.weight);
-                let changed = self
-                    .table
-                    .update_weights(&mut self.sums, &[middle], &[self.weight]);
-                changed.expect("a change");
-            }
-            Work::Lookup => {
-                black_box(self.table.weight(&self.sums, middle)).expect("a table");
-            }
-            Work::Pick => {
-                let picked = self.table.sample(&mut self.rng, &self.sums, u64::MAX);
-                black_box(picked.expect("a table"));
-            }
-        }
-        black_box(&self.sums);
-    }
-
-    fn state(&self) -> State {
-        self.rng.state()
-    }
+fn pick(count: usize) -> Sides {
+    Sides::new(
+        theirs(rand_table(count), |rng, table| table.sample(rng), answer),
+        ours(
+            port_table(count),
+            |rng, (table, sums)| table.sample(rng, sums, u64::MAX).expect(GOOD),
+            |_, picked| picked.index as usize,
+        ),
+    )
 }

@@ -100,3 +100,65 @@ fn number(text: &str) -> Result<u64, String> {
     text.parse()
         .map_err(|_| format!("{text} is no number below 2^64"))
 }
+
+#[cfg(test)]
+mod tests {
+    use std::time::Duration;
+
+    use super::{Arguments, Faults};
+
+    const BOUNDARY: &str = "at-the-boundary";
+    const PROGRAM: &str = "in-the-program";
+
+    fn parse(line: &str) -> Result<Arguments, String> {
+        let faults = Faults {
+            boundary: vec![BOUNDARY],
+            program: vec![PROGRAM],
+        };
+        Arguments::parse(line.split_whitespace().map(str::to_owned), &faults)
+    }
+
+    #[test]
+    fn every_option_is_read() {
+        for seed in [1, 2, 3, u64::MAX] {
+            let line = format!("--seed {seed} --seconds 9 --calls 7 --plant {BOUNDARY}");
+            let arguments = Arguments {
+                seed,
+                seconds: Some(9),
+                calls: Some(7),
+                plant: Some(BOUNDARY.to_owned()),
+                program: None,
+            };
+            assert_eq!(parse(&line), Ok(arguments));
+        }
+        assert_eq!(parse("").map(|arguments| arguments.seed), Ok(1));
+    }
+
+    /// A run that cannot find the fault must not pass for one that did not.
+    #[test]
+    fn a_fault_that_cannot_be_found_is_an_error() {
+        for line in ["--plant", "--plant no-such", "--plant in-the-program"] {
+            assert!(parse(line).is_err(), "{line}");
+        }
+        let line = format!("--plant {PROGRAM} --program path");
+        let planted = parse(&line).expect("the program is named");
+        assert!(planted.wants(&["another", PROGRAM]));
+        assert!(!planted.wants(&["another"]));
+        assert!(parse("").expect("no options").wants(&[]));
+    }
+
+    #[test]
+    fn what_is_no_option_or_no_number_is_an_error() {
+        for line in ["--sead 1", "--seed", "--seed x", "--calls -1", "7 7"] {
+            assert!(parse(line).is_err(), "{line}");
+        }
+    }
+
+    #[test]
+    fn the_time_is_shared_by_parts() {
+        let time = |line| parse(line).expect("options").bound(3, 10).time;
+        assert_eq!(time("--seconds 10"), Some(Duration::from_secs(3)));
+        assert_eq!(time(""), Some(Duration::from_secs(6)));
+        assert_eq!(time("--calls 5"), None);
+    }
+}

@@ -2,7 +2,7 @@
 
 use rand::rngs::Xoshiro256PlusPlus;
 use rand::{Rng, RngExt, SeedableRng};
-use reference::{State, state};
+use reference::State;
 
 /// Random numbers, by rand's own generator: an error in the port cannot choose what the port is tried on.
 pub struct Source(Xoshiro256PlusPlus);
@@ -57,11 +57,6 @@ impl Source {
     pub fn one_of<T: Copy>(&mut self, choices: &[T]) -> T {
         choices[self.below(choices.len() as u32) as usize]
     }
-}
-
-/// The state of one of rand's generators, as good as any other.
-pub fn some_state(number: u64) -> State {
-    state(&Xoshiro256PlusPlus::seed_from_u64(number))
 }
 
 /// 0, the powers of two of 64 bits, their neighbours, and the largest number.

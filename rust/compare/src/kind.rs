@@ -85,6 +85,9 @@ pub struct Entry {
     pub parts: usize,
     /// Runs the kind and prints what came of it.
     pub run: fn(&Arguments, &Bound) -> Tally,
+    /// Whether this fault shows in one of so many random inputs.
+    #[cfg(test)]
+    pub shows: fn(&str, usize) -> bool,
 }
 
 impl Entry {
@@ -94,8 +97,17 @@ impl Entry {
             faults: K::FAULTS,
             parts: K::PARTS,
             run: run::<K>,
+            #[cfg(test)]
+            shows: shows::<K>,
         }
     }
+}
+
+#[cfg(test)]
+fn shows<K: Kind>(fault: &str, inputs: usize) -> bool {
+    let trial = Trial::new(K::new(Some(fault)), true);
+    let mut source = Source::new(1);
+    (0..inputs).any(|_| trial.differs(&K::random(&mut source)))
 }
 
 /// Calls between two looks at the clock.

@@ -3,6 +3,7 @@
 use std::fs;
 
 use reference::State;
+use reference::sampling::Sampling;
 
 /// A line of the list of the kind that is asked for, and its answer.
 pub struct Listed {
@@ -11,6 +12,23 @@ pub struct Listed {
     /// The state, and the numbers behind it.
     pub from: State,
     pub numbers: Vec<u64>,
+}
+
+impl Listed {
+    /// The call of a line that asks for a sample or a view.
+    pub fn sampling(&self) -> Sampling {
+        let [length, amount, budget, indices_len, scratch_len] = self.numbers[..] else {
+            panic!("nine numbers: {}", self.line);
+        };
+        Sampling {
+            from: self.from,
+            length,
+            amount,
+            budget,
+            indices_len: indices_len as usize,
+            scratch_len: scratch_len as usize,
+        }
+    }
 }
 
 /// The lines of a kind whose calls start from a state.

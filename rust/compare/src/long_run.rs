@@ -198,8 +198,7 @@ impl Calls {
             from,
             ..Sample::random(source)
         };
-        let end = self.sample;
-        let answer = sample::Answer::new(&call, |indices, scratch| end(&call, indices, scratch));
+        let answer = sample::Answer::new(&call, self.sample);
         (answer.ended, vec![answer.indices, answer.scratch])
     }
 

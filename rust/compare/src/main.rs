@@ -104,3 +104,28 @@ fn usage(faults: &Faults) -> String {
     let program = faults.program.join(", ");
     format!("{USAGE}\nfaults to plant: {boundary}; with --program: {program}")
 }
+
+#[cfg(test)]
+mod tests {
+    use super::KINDS;
+
+    /// Random inputs in which a fault must show.
+    const INPUTS: usize = 50_000;
+
+    /// A fault that is planted is there, and random inputs alone are enough to find it.
+    #[test]
+    fn every_fault_at_the_boundary_shows() {
+        for entry in &KINDS {
+            for fault in entry.faults {
+                assert!((entry.shows)(fault, INPUTS), "{fault} shows nowhere");
+            }
+        }
+    }
+
+    #[test]
+    fn nothing_differs_without_a_fault() {
+        for entry in &KINDS {
+            assert!(!(entry.shows)("none of these", 20));
+        }
+    }
+}

@@ -2,12 +2,12 @@
 //! that a refused one writes zeros, is in a test of package `gapyndura`.
 
 use gapyndura::Xoshiro256PlusPlus;
-use reference::State;
 use reference::sampling::Ended;
 use reference::viewing::{self, next_u32};
 use reference::words::giving;
+use reference::{State, some_state};
 
-use crate::inputs::{Source, edges, smaller_states, some_state};
+use crate::inputs::{Source, edges, smaller_states};
 use crate::kind::Kind;
 
 /// From so many generators of rand's a word is drawn in every run.

@@ -96,5 +96,18 @@ unsafe extern "C" {
     ) -> u32;
 }
 
+/// One of the two functions that choose.
+pub type Choose = unsafe extern "C" fn(
+    &mut [u64; 4],
+    *const u32,
+    usize,
+    *const u32,
+    usize,
+    *const u32,
+    usize,
+    u64,
+    &mut [u64; 3],
+) -> u32;
+
 #[cfg(test)]
 mod tests;

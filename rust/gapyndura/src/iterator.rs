@@ -7,7 +7,7 @@
 use core::error::Error;
 use core::fmt;
 
-use crate::boundary::{gapyndura_choose, gapyndura_choose_stable, gapyndura_sample_fill};
+use crate::boundary::{self, gapyndura_choose, gapyndura_choose_stable, gapyndura_sample_fill};
 use crate::{Refusal, Xoshiro256PlusPlus};
 
 /// What a fill took and gave.
@@ -174,22 +174,7 @@ pub fn choose(
     upper: &[u32],
     budget: u64,
 ) -> Result<Chosen, ChooseError> {
-    let mut out = [0; 3];
-    // SAFETY: as in `sample_fill`.
-    let number = unsafe {
-        gapyndura_choose(
-            rng.state_mut(),
-            items.as_ptr(),
-            items.len(),
-            lower.as_ptr(),
-            lower.len(),
-            upper.as_ptr(),
-            upper.len(),
-            budget,
-            &mut out,
-        )
-    };
-    chosen(number, out)
+    choose_by(gapyndura_choose, rng, items, lower, upper, budget)
 }
 
 /// Chooses one of the items, and the same one whatever the hints are.
@@ -236,10 +221,22 @@ pub fn choose_stable(
     upper: &[u32],
     budget: u64,
 ) -> Result<Chosen, ChooseError> {
+    choose_by(gapyndura_choose_stable, rng, items, lower, upper, budget)
+}
+
+/// Chooses by one of the header's functions.
+fn choose_by(
+    function: boundary::Choose,
+    rng: &mut Xoshiro256PlusPlus,
+    items: &[u32],
+    lower: &[u32],
+    upper: &[u32],
+    budget: u64,
+) -> Result<Chosen, ChooseError> {
     let mut out = [0; 3];
-    // SAFETY: as in `sample_fill`.
+    // SAFETY: as in `sample_fill`: both functions ask for the same.
     let number = unsafe {
-        gapyndura_choose_stable(
+        function(
             rng.state_mut(),
             items.as_ptr(),
             items.len(),
@@ -251,11 +248,6 @@ pub fn choose_stable(
             &mut out,
         )
     };
-    chosen(number, out)
-}
-
-/// What a function of the header answers and writes for a choice.
-fn chosen(number: u32, out: [u64; 3]) -> Result<Chosen, ChooseError> {
     let [words, is_there, item] = out;
     if number == 0 {
         return Ok(Chosen {

@@ -6,7 +6,7 @@ use reference::coins::Coins;
 use reference::draws::BUDGET_EXHAUSTED;
 use reference::{Counting, State};
 
-use super::port;
+use super::{AnyChoice, Chooser};
 
 /// Coins that are left before a bounded draw are dropped at it.
 pub const COINS_RESET: &str = "coins-reset";
@@ -43,21 +43,17 @@ pub fn choose(plant: Option<&str>) -> Option<Choose> {
             };
             method.end(from, lists, budget)
         },
-        ITEM_AFTER => |from, lists, budget| item_after(port::choose, from, lists, budget),
-        SPENT_NONE => |from, lists, budget| spent_none(port::choose(from, lists, budget)),
-        WORDS => |from, lists, budget| words(port::choose(from, lists, budget)),
-        HINTS_SHORT => |from, lists, budget| hints_short(port::choose, from, lists, budget),
-        _ => return None,
+        _ => return either::<AnyChoice>(plant),
     })
 }
 
-/// The port's `choose_stable` with this fault in it, where the name is that of one.
-pub fn choose_stable(plant: Option<&str>) -> Option<Choose> {
+/// The port's choice with this fault in it, where the name is that of one that either chooser can have.
+pub fn either<C: Chooser>(plant: Option<&str>) -> Option<Choose> {
     Some(match plant? {
-        ITEM_AFTER => |from, lists, budget| item_after(port::choose_stable, from, lists, budget),
-        SPENT_NONE => |from, lists, budget| spent_none(port::choose_stable(from, lists, budget)),
-        WORDS => |from, lists, budget| words(port::choose_stable(from, lists, budget)),
-        HINTS_SHORT => |from, lists, budget| hints_short(port::choose_stable, from, lists, budget),
+        ITEM_AFTER => |from, lists, budget| item_after(C::PORT, from, lists, budget),
+        SPENT_NONE => |from, lists, budget| spent_none((C::PORT)(from, lists, budget)),
+        WORDS => |from, lists, budget| words((C::PORT)(from, lists, budget)),
+        HINTS_SHORT => |from, lists, budget| hints_short(C::PORT, from, lists, budget),
         _ => return None,
     })
 }

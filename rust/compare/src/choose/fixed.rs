@@ -1,12 +1,12 @@
 //! The choices that every run tries: small ones with all hints that hold, longer ones with hints of each kind, and false hints.
 
-use reference::State;
 use reference::choose_line::{PATTERNS, hints};
 use reference::choosing::{self, NO_UPPER};
 use reference::words::{bounded, giving};
+use reference::{State, some_state};
 
 use super::Input;
-use crate::inputs::{edges, some_state};
+use crate::inputs::edges;
 
 /// To this number of items all hints are tried that hold: every lower one, with an upper that is exact, one more, or none. So many
 /// generators are tried with each.

@@ -13,6 +13,8 @@ mod random;
 mod repeated;
 mod smaller;
 
+use std::marker::PhantomData;
+
 use reference::State;
 use reference::choosing::{self, Chosen, Lists, choose, choose_stable};
 
@@ -23,14 +25,36 @@ use crate::slices::Lent;
 pub use random::count;
 
 /// Calls of `choose`, each from a generator of its own.
-pub struct Choose {
-    end: choosing::Choose,
-}
+pub type Choose = Calls<AnyChoice>;
 
 /// Calls of `choose_stable`, each from a generator of its own.
-pub struct ChooseStable {
+pub type ChooseStable = Calls<StableChoice>;
+
+/// Calls of either chooser.
+pub struct Calls<C> {
     end: choosing::Choose,
+    chooser: PhantomData<C>,
 }
+
+/// What the choosers do not share.
+pub trait Chooser {
+    const NAME: &'static str;
+    const FAULTS: &'static [&'static str];
+    const RAND: choosing::Choose;
+    const PORT: choosing::Choose;
+
+    /// The port's choice with this fault in it, where the name is that of one.
+    fn faulty(plant: Option<&str>) -> Option<choosing::Choose>;
+
+    /// Hands over inputs that every run tries beside those of both.
+    fn further(visit: &mut impl FnMut(Input));
+}
+
+/// [`Choose`]'s chooser.
+pub struct AnyChoice;
+
+/// [`ChooseStable`]'s chooser.
+pub struct StableChoice;
 
 /// What either chooser is given.
 #[derive(Clone, Debug)]
@@ -75,7 +99,7 @@ impl Answer {
     }
 }
 
-impl Kind for Choose {
+impl Chooser for AnyChoice {
     const NAME: &'static str = "choose";
     const FAULTS: &'static [&'static str] = &[
         faults::COINS_RESET,
@@ -85,39 +109,20 @@ impl Kind for Choose {
         faults::WORDS,
         faults::HINTS_SHORT,
     ];
-    const PARTS: usize = 2;
-    type Input = Input;
-    type Answer = Answer;
+    const RAND: choosing::Choose = choose;
+    const PORT: choosing::Choose = port::choose;
 
-    fn new(plant: Option<&str>) -> Self {
-        let end = faults::choose(plant).unwrap_or(port::choose);
-        Self { end }
+    fn faulty(plant: Option<&str>) -> Option<choosing::Choose> {
+        faults::choose(plant)
     }
 
-    fn fixed(mut visit: impl FnMut(Input)) {
-        fixed::calls(choose, &mut visit);
-        fixed::draws_between_coins(&mut visit);
-        fixed::coins_after_a_draw(&mut visit);
-    }
-
-    fn random(source: &mut Source) -> Input {
-        random::call(source)
-    }
-
-    fn smaller(input: &Input) -> Vec<Input> {
-        smaller::than(input)
-    }
-
-    fn rand(input: &Input) -> Answer {
-        Answer::new(input, choose)
-    }
-
-    fn port(&self, input: &Input) -> Answer {
-        Answer::new(input, self.end)
+    fn further(visit: &mut impl FnMut(Input)) {
+        fixed::draws_between_coins(visit);
+        fixed::coins_after_a_draw(visit);
     }
 }
 
-impl Kind for ChooseStable {
+impl Chooser for StableChoice {
     const NAME: &'static str = "choose_stable";
     const FAULTS: &'static [&'static str] = &[
         faults::ITEM_AFTER,
@@ -125,18 +130,35 @@ impl Kind for ChooseStable {
         faults::WORDS,
         faults::HINTS_SHORT,
     ];
+    const RAND: choosing::Choose = choose_stable;
+    const PORT: choosing::Choose = port::choose_stable;
+
+    fn faulty(plant: Option<&str>) -> Option<choosing::Choose> {
+        faults::either::<Self>(plant)
+    }
+
+    fn further(visit: &mut impl FnMut(Input)) {
+        fixed::many(visit);
+    }
+}
+
+impl<C: Chooser> Kind for Calls<C> {
+    const NAME: &'static str = C::NAME;
+    const FAULTS: &'static [&'static str] = C::FAULTS;
     const PARTS: usize = 2;
     type Input = Input;
     type Answer = Answer;
 
     fn new(plant: Option<&str>) -> Self {
-        let end = faults::choose_stable(plant).unwrap_or(port::choose_stable);
-        Self { end }
+        Self {
+            end: C::faulty(plant).unwrap_or(C::PORT),
+            chooser: PhantomData,
+        }
     }
 
     fn fixed(mut visit: impl FnMut(Input)) {
-        fixed::calls(choose_stable, &mut visit);
-        fixed::many(&mut visit);
+        fixed::calls(C::RAND, &mut visit);
+        C::further(&mut visit);
     }
 
     fn random(source: &mut Source) -> Input {
@@ -148,7 +170,7 @@ impl Kind for ChooseStable {
     }
 
     fn rand(input: &Input) -> Answer {
-        Answer::new(input, choose_stable)
+        Answer::new(input, C::RAND)
     }
 
     fn port(&self, input: &Input) -> Answer {

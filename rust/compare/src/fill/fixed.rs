@@ -1,8 +1,7 @@
 //! The fills that every run tries: small ones without gap, and long ones.
 
 use reference::filling::Filling;
-
-use crate::inputs::some_state;
+use reference::some_state;
 
 /// Every buffer to two entries more is tried with every number of items to this one, from so many generators.
 const SMALL: usize = 40;

@@ -1,11 +1,11 @@
 //! The choices of the list. A feed has at most 2,000 items.
 
-use reference::State;
 use reference::call::Call;
 use reference::choose_line::{MOST_FEED, PATTERNS, Patterned};
 use reference::words::giving;
+use reference::{State, some_state};
 
-use crate::contents::{Section, some_state};
+use crate::contents::Section;
 
 /// A budget that no choice of the list uses up.
 const ENOUGH: u64 = 1000;

@@ -2,11 +2,9 @@
 
 use std::iter;
 
-use rand::SeedableRng;
-use rand::rngs::Xoshiro256PlusPlus;
 use reference::call::{Call, Reading};
 use reference::words::{bounded, giving, rejecting};
-use reference::{State, state};
+use reference::{State, some_state};
 
 use crate::{choices, samples, shuffles, views, weights};
 
@@ -69,11 +67,6 @@ pub fn sections() -> Vec<Section> {
     sections.extend(choices::sections());
     sections.extend(views::sections());
     sections
-}
-
-/// The state of one of rand's generators, as good as any other.
-pub fn some_state(number: u64) -> State {
-    state(&Xoshiro256PlusPlus::seed_from_u64(number))
 }
 
 /// A line of readings.

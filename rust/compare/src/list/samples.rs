@@ -4,9 +4,9 @@
 use reference::call::{Call, LONGEST_SLICE};
 use reference::methods::{Method, by_rand, due};
 use reference::sampling::Sampling;
-use reference::{State, from_state};
+use reference::{State, from_state, some_state};
 
-use crate::contents::{Section, some_state};
+use crate::contents::Section;
 
 /// Lines of samples for each small length and amount.
 const LINES: u64 = 3;

@@ -1,12 +1,12 @@
 //! The shuffles and the fills of the list. A slice has at most 50,000 entries.
 
-use reference::State;
 use reference::call::{Call, LONGEST_SLICE};
 use reference::filling::Filling;
 use reference::shuffling::{Shuffling, Whole, chunk};
 use reference::words::giving;
+use reference::{State, some_state};
 
-use crate::contents::{Section, some_state};
+use crate::contents::Section;
 
 /// Lengths of whole shuffles: the least, those next to the ends of the first chunks, and long ones.
 const LENGTHS: [usize; 16] = [

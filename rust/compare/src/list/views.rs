@@ -1,12 +1,12 @@
 //! The views of drawn items and the lent words of the list. There are at most 50,000 items.
 
 use reference::call::{Call, LONGEST_SLICE};
-use reference::methods::{Method, by_rand, due};
+use reference::methods::{by_rand, scratch};
 use reference::sampling::Sampling;
 use reference::words::giving;
-use reference::{State, from_state};
+use reference::{State, from_state, some_state};
 
-use crate::contents::{Section, some_state};
+use crate::contents::Section;
 
 /// Numbers of items and amounts: none, one, few, and on both sides of the methods' bounds.
 const VIEWS: [(u64, u64); 18] = [
@@ -66,18 +66,14 @@ pub fn sections() -> Vec<Section> {
 /// A view with a budget that suffices and slices that are longer than it needs, as far as there is room.
 fn viewing(from: State, length: u64, amount: u64) -> Sampling {
     let drawn = amount.min(length);
-    let needed = match due(length as u32, drawn as u32) {
-        Method::InPlace => length,
-        _ => 0,
-    };
-    let longer = |len: u64| LONGEST_SLICE.min(len as usize + 2);
+    let longer = |len: usize| LONGEST_SLICE.min(len + 2);
     Sampling {
         from,
         length,
         amount,
         budget: drawn * 10,
-        indices_len: longer(drawn),
-        scratch_len: longer(needed),
+        indices_len: longer(drawn as usize),
+        scratch_len: longer(scratch(length as u32, drawn as u32)),
     }
 }
 

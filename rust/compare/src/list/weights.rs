@@ -1,11 +1,11 @@
 //! The tables of weights of the list.
 
-use reference::State;
 use reference::call::Call;
 use reference::weights_line::Weighing;
 use reference::words::{giving, rejecting};
+use reference::{State, some_state};
 
-use crate::contents::{Section, some_state};
+use crate::contents::Section;
 
 /// A budget that no pick of the list uses up.
 const ENOUGH: u64 = 1000;

@@ -88,6 +88,12 @@ impl List {
     }
 }
 
+/// The state of one of rand's generators, as good as any other.
+#[must_use]
+pub fn some_state(number: u64) -> State {
+    state(&Xoshiro256PlusPlus::seed_from_u64(number))
+}
+
 /// rand's generator with these four words of state.
 ///
 /// # Panics

@@ -42,6 +42,15 @@ pub fn due(length: u32, amount: u32) -> Method {
     }
 }
 
+/// The entries of scratch that a sample needs: the method in place arranges all indices there.
+#[must_use]
+pub fn scratch(length: u32, amount: u32) -> usize {
+    match due(length, amount) {
+        Method::InPlace => length as usize,
+        Method::Floyd | Method::Rejection => 0,
+    }
+}
+
 /// What a method has drawn.
 #[derive(Clone, Debug, Default, PartialEq, Eq)]
 pub struct Sample {

@@ -5,8 +5,7 @@ use reference::draws::{bounded, rejecting};
 use reference::methods::{Method, Sample, by_rand, due};
 use reference::sampling::{Ended, Sampling};
 
-/// How a call ends with a fault in it.
-pub type Fault = fn(&Sampling, &mut [u32], &mut [u32]) -> Ended;
+use super::End;
 
 /// The names of the faults.
 pub const NAMES: [&str; 6] = [
@@ -19,7 +18,7 @@ pub const NAMES: [&str; 6] = [
 ];
 
 /// The faults by name.
-pub const FAULTS: [(&str, Fault); 6] = [
+pub const FAULTS: [(&str, End); 6] = [
     (NAMES[0], |call, indices, scratch| {
         with(call, Method::Floyd, floyd_appends_j, indices, scratch)
     }),

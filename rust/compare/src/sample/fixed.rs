@@ -1,10 +1,8 @@
 //! The samples that every run tries: small ones without gap, and those at the bounds of the rules.
 
-use reference::methods::{Method, by_rand, due};
+use reference::methods::{by_rand, scratch};
 use reference::sampling::Sampling;
-use reference::{State, from_state};
-
-use crate::inputs::some_state;
+use reference::{State, from_state, some_state};
 
 /// Every amount is tried at every length to this one, from so many generators.
 const SMALL: u64 = 40;
@@ -62,13 +60,13 @@ const LONGEST: u64 = 60_000;
 pub fn scratch_needed(length: u64, amount: u64) -> usize {
     let sizes = (u32::try_from(length), u32::try_from(amount));
     match sizes {
-        (Ok(places), Ok(count)) if due(places, count) == Method::InPlace => length as usize,
+        (Ok(places), Ok(count)) => scratch(places, count),
         _ => 0,
     }
 }
 
 /// A sample with slices that are exactly long enough and a budget that suffices.
-fn exact(from: State, length: u64, amount: u64) -> Sampling {
+pub fn exact(from: State, length: u64, amount: u64) -> Sampling {
     Sampling {
         from,
         length,
@@ -80,7 +78,7 @@ fn exact(from: State, length: u64, amount: u64) -> Sampling {
 }
 
 /// The same with slices that are longer by so much.
-fn longer(call: &Sampling, by: usize) -> Sampling {
+pub fn longer(call: &Sampling, by: usize) -> Sampling {
     Sampling {
         indices_len: call.indices_len + by,
         scratch_len: call.scratch_len + by,
@@ -110,7 +108,7 @@ pub fn calls(mut visit: impl FnMut(Sampling)) {
         at_bound(u32::MAX.into(), amount, 5, &mut visit);
     }
     for (number, (length, amount)) in (0..).zip(UNDER_BUDGETS) {
-        budgets(exact(some_state(number), length, amount), &mut visit);
+        budgets(&exact(some_state(number), length, amount), &mut visit);
     }
     for (length, amount) in [(20, 11), (40, 12), (44_010, 163)] {
         refusals(&exact(some_state(length), length, amount), &mut visit);
@@ -129,34 +127,38 @@ fn small(visit: &mut impl FnMut(Sampling)) {
     }
 }
 
-/// A sample with slices that are exactly long enough, longer, and one short; and with an amount above the length.
+/// A sample with slices of several lengths, and with an amount above the length.
 fn at_bound(length: u64, amount: u64, generators: u64, visit: &mut impl FnMut(Sampling)) {
     for number in 0..generators {
         let call = exact(some_state(number), length, amount);
-        visit(longer(&call, 7));
+        slices(&call, visit);
         visit(Sampling {
             amount: length + 1,
+            ..call
+        });
+    }
+}
+
+/// A call with slices that are as long as they are here, longer, and one short.
+pub fn slices(call: &Sampling, visit: &mut impl FnMut(Sampling)) {
+    visit(longer(call, 7));
+    for (indices_short, scratch_short) in [(0, 0), (1, 0), (0, 1), (1, 1)] {
+        visit(Sampling {
+            indices_len: call.indices_len.saturating_sub(indices_short),
+            scratch_len: call.scratch_len.saturating_sub(scratch_short),
             ..call.clone()
         });
-        for (indices_short, scratch_short) in [(1, 0), (0, 1), (1, 1)] {
-            visit(Sampling {
-                indices_len: call.indices_len.saturating_sub(indices_short),
-                scratch_len: call.scratch_len.saturating_sub(scratch_short),
-                ..call.clone()
-            });
-        }
-        visit(call);
     }
 }
 
 /// A sample with every budget from 0 to more than it needs.
-fn budgets(call: Sampling, visit: &mut impl FnMut(Sampling)) {
+pub fn budgets(call: &Sampling, visit: &mut impl FnMut(Sampling)) {
     let mut rng = from_state(call.from);
     let needed = by_rand(&mut rng, call.length as u32, call.amount as u32).words();
     for budget in 0..=needed + 2 {
         visit(Sampling {
             budget,
-            ..longer(&call, 2)
+            ..longer(call, 2)
         });
     }
 }

@@ -3,7 +3,7 @@
 
 pub mod choice;
 mod faults;
-mod fixed;
+pub mod fixed;
 pub mod port;
 pub mod random;
 
@@ -12,13 +12,11 @@ use reference::sampling::{Ended, Sampling};
 use crate::inputs::{Source, smaller, smaller_states};
 use crate::kind::Kind;
 use crate::slices::Lent;
-use faults::{FAULTS, Fault};
-
-pub use fixed::scratch_needed;
+use faults::FAULTS;
 
 /// Calls of `sample`, each from a generator of its own.
 pub struct Sample {
-    fault: Option<Fault>,
+    fault: Option<End>,
 }
 
 /// All that is left of a call.
@@ -34,10 +32,10 @@ pub type End = fn(&Sampling, &mut [u32], &mut [u32]) -> Ended;
 
 impl Answer {
     /// The answer where `end` ends the call and leaves the slices as they then are.
-    pub fn new(call: &Sampling, end: impl FnOnce(&mut [u32], &mut [u32]) -> Ended) -> Self {
+    pub fn new(call: &Sampling, end: End) -> Self {
         let mut indices = Lent::new(call.indices_len);
         let mut scratch = Lent::new(call.scratch_len);
-        let ended = end(indices.entries(), scratch.entries());
+        let ended = end(call, indices.entries(), scratch.entries());
         Self {
             ended,
             indices,
@@ -88,17 +86,17 @@ impl Kind for Sample {
     }
 
     fn rand(call: &Sampling) -> Answer {
-        Answer::new(call, |indices, scratch| call.end(indices, scratch))
+        Answer::new(call, Sampling::end)
     }
 
     /// The port's, or that of the planted fault where it is not rand's.
     fn port(&self, call: &Sampling) -> Answer {
         if let Some(fault) = self.fault {
-            let faulty = Answer::new(call, |indices, scratch| fault(call, indices, scratch));
+            let faulty = Answer::new(call, fault);
             if faulty != Self::rand(call) {
                 return faulty;
             }
         }
-        Answer::new(call, |indices, scratch| port::end(call, indices, scratch))
+        Answer::new(call, port::end)
     }
 }

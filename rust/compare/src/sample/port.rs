@@ -31,7 +31,6 @@ pub fn end(call: &Sampling, indices: &mut [u32], scratch: &mut [u32]) -> Ended {
 mod tests {
     use reference::call::joined;
     use reference::sample_line::sampled;
-    use reference::sampling::Sampling;
 
     use super::end;
     use crate::listed::lines;
@@ -41,17 +40,7 @@ mod tests {
         let lines = lines("sample");
         assert!(lines.len() > 100, "{} samples in the list", lines.len());
         for listed in lines {
-            let [length, amount, budget, indices_len, scratch_len] = listed.numbers[..] else {
-                panic!("nine numbers: {}", listed.line);
-            };
-            let call = Sampling {
-                from: listed.from,
-                length,
-                amount,
-                budget,
-                indices_len: indices_len as usize,
-                scratch_len: scratch_len as usize,
-            };
+            let call = listed.sampling();
             let port = sampled(&call, |indices, scratch| end(&call, indices, scratch));
             assert_eq!(joined(&port), listed.answer, "{}", listed.line);
         }

@@ -3,8 +3,7 @@
 use std::iter;
 
 use reference::shuffling::{Shuffling, Whole, chunk};
-
-use crate::inputs::some_state;
+use reference::some_state;
 
 /// Every amount to two above the length is tried at every length to this one, from so many generators.
 const SMALL: usize = 40;

@@ -1,11 +1,9 @@
 //! The views that every run tries: small ones without gap, those at the bounds of the methods, budgets and refusals.
 
-use reference::from_state;
-use reference::methods::by_rand;
 use reference::sampling::Sampling;
+use reference::some_state;
 
-use crate::inputs::some_state;
-use crate::sample::scratch_needed;
+use crate::sample::fixed::{self, budgets, longer, slices};
 
 /// Every amount to two above the number of items is tried for every such number to this one, from so many generators.
 const SMALL: u64 = 40;
@@ -34,24 +32,8 @@ const ABOVE: [u64; 4] = [1, 2, 1000, 1 << 32];
 
 /// A view with slices that are exactly long enough and a budget that suffices.
 fn exact(number: u64, length: u64, amount: u64) -> Sampling {
-    let drawn = amount.min(length);
-    Sampling {
-        from: some_state(number),
-        length,
-        amount,
-        budget: u64::MAX,
-        indices_len: drawn as usize,
-        scratch_len: scratch_needed(length, drawn),
-    }
-}
-
-/// The same with slices that are longer by so much.
-fn longer(call: &Sampling, by: usize) -> Sampling {
-    Sampling {
-        indices_len: call.indices_len + by,
-        scratch_len: call.scratch_len + by,
-        ..call.clone()
-    }
+    let drawn = fixed::exact(some_state(number), length, amount.min(length));
+    Sampling { amount, ..drawn }
 }
 
 /// Hands over all of them.
@@ -77,30 +59,10 @@ pub fn calls(mut visit: impl FnMut(Sampling)) {
     }
 }
 
-/// A view with slices that are exactly long enough, longer, and one short.
+/// A view with slices of several lengths, from three generators.
 fn at_bound(length: u64, amount: u64, visit: &mut impl FnMut(Sampling)) {
     for number in 0..3 {
-        let call = exact(number, length, amount);
-        visit(longer(&call, 7));
-        for (indices_short, scratch_short) in [(0, 0), (1, 0), (0, 1), (1, 1)] {
-            visit(Sampling {
-                indices_len: call.indices_len.saturating_sub(indices_short),
-                scratch_len: call.scratch_len.saturating_sub(scratch_short),
-                ..call.clone()
-            });
-        }
-    }
-}
-
-/// A view with every budget from 0 to more than it needs.
-fn budgets(call: &Sampling, visit: &mut impl FnMut(Sampling)) {
-    let mut rng = from_state(call.from);
-    let needed = by_rand(&mut rng, call.length as u32, call.amount as u32).words();
-    for budget in 0..=needed + 2 {
-        visit(Sampling {
-            budget,
-            ..longer(call, 2)
-        });
+        slices(&exact(number, length, amount), visit);
     }
 }
 

@@ -55,7 +55,6 @@ fn refused(error: SampleError, state: State) -> Ended {
 #[cfg(test)]
 mod tests {
     use reference::call::joined;
-    use reference::sampling::Sampling;
     use reference::view_line::viewed;
 
     use super::view;
@@ -66,18 +65,7 @@ mod tests {
         let lines = lines("indexed_samples");
         assert!(lines.len() > 40, "{} in the list", lines.len());
         for listed in lines {
-            let [length, amount, budget, indices_len, scratch_len] = listed.numbers[..] else {
-                panic!("nine numbers: {}", listed.line);
-            };
-            let call = Sampling {
-                from: listed.from,
-                length,
-                amount,
-                budget,
-                indices_len: indices_len as usize,
-                scratch_len: scratch_len as usize,
-            };
-            let port = viewed(&call, view);
+            let port = viewed(&listed.sampling(), view);
             assert_eq!(joined(&port), listed.answer, "{}", listed.line);
         }
     }

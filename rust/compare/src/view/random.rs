@@ -3,8 +3,8 @@
 use reference::sampling::Sampling;
 
 use crate::inputs::Source;
+use crate::sample::fixed::scratch_needed;
 use crate::sample::random::{around, budget};
-use crate::sample::scratch_needed;
 
 /// A random view.
 pub fn call(source: &mut Source) -> Sampling {

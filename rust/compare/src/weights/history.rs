@@ -2,15 +2,15 @@
 //! the last accepted one and the slice as the last one has left it. rand's table is carried through all of them, and so is the plain
 //! list of weights.
 
-use reference::State;
 use reference::plain_list::{PlainList, Record};
 use reference::sampling::{Ended, ZERO_STATE};
 use reference::weighing::{Changed, Held, Looked};
+use reference::{State, some_state};
 
 use super::faults;
 use super::new::lists;
 use super::{Calls, random, smaller};
-use crate::inputs::{Source, smaller_states, some_state};
+use crate::inputs::{Source, smaller_states};
 use crate::kind::Kind;
 use crate::slices::Lent;
 

@@ -3,12 +3,12 @@
 use reference::sampling::Ended;
 use reference::weighing::Held;
 use reference::words::{giving, rejecting};
-use reference::{State, hash};
+use reference::{State, hash, some_state};
 
 use super::faults;
 use super::tables::{self, HALF_DROPPED};
 use super::{Answer, Calls, RAND, Table, random, smaller};
-use crate::inputs::{Source, edges, smaller as smaller_numbers, smaller_states, some_state};
+use crate::inputs::{Source, edges, smaller as smaller_numbers, smaller_states};
 use crate::kind::Kind;
 use crate::slices::Lent;
 

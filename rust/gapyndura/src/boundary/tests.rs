@@ -1,9 +1,9 @@
 //! What the functions of the header write besides what the safe calls hand on.
 
 use super::{
-    gapyndura_choose, gapyndura_choose_stable, gapyndura_next_u32, gapyndura_partial_shuffle,
-    gapyndura_sample_fill, gapyndura_shuffle, gapyndura_weights_new, gapyndura_weights_pick,
-    gapyndura_weights_update, gapyndura_weights_weight,
+    Choose, gapyndura_choose, gapyndura_choose_stable, gapyndura_next_u32,
+    gapyndura_partial_shuffle, gapyndura_sample_fill, gapyndura_shuffle, gapyndura_weights_new,
+    gapyndura_weights_pick, gapyndura_weights_update, gapyndura_weights_weight,
 };
 
 /// A call with a state, and with the out-parameter that is written.
@@ -216,20 +216,7 @@ fn a_total_above_32_bits_is_no_record() {
     }
 }
 
-/// A function of the header that chooses.
-type Choose = unsafe extern "C" fn(
-    &mut [u64; 4],
-    *const u32,
-    usize,
-    *const u32,
-    usize,
-    *const u32,
-    usize,
-    u64,
-    &mut [u64; 3],
-) -> u32;
-
-/// The two.
+/// The two functions that choose.
 const CHOOSERS: [Choose; 2] = [gapyndura_choose, gapyndura_choose_stable];
 
 /// The answer to a choice from 5, 6, 7 and so on, what it writes, and the state afterwards.

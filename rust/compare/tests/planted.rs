@@ -1,0 +1,46 @@
+//! Program `compare` itself, where a fault is planted and where it cannot be.
+
+use std::process::{Command, Output};
+
+/// Faults that are found within a second, in seedings, words, samples and tables.
+const FAULTS: [&str; 4] = [
+    "zero-bytes",
+    "word-unadvanced",
+    "floyd-appends-j",
+    "old-weight",
+];
+
+fn compare(words: &[&str]) -> Output {
+    let mut command = Command::new(env!("CARGO_BIN_EXE_compare"));
+    command.args(words).output().expect("compare runs")
+}
+
+#[test]
+fn a_planted_fault_is_told_and_ends_with_status_1() {
+    for fault in FAULTS {
+        for seed in ["1", "2", "3"] {
+            let output = compare(&["--plant", fault, "--seed", seed, "--calls", "1000"]);
+            let text = String::from_utf8_lossy(&output.stdout);
+            assert_eq!(output.status.code(), Some(1), "{fault}: {text}");
+            assert!(text.contains("the smallest input found"), "{text}");
+            let last = text.lines().last().unwrap_or_default();
+            assert!(
+                last.ends_with(" differ") && !last.ends_with(" 0 differ"),
+                "{last}"
+            );
+        }
+    }
+}
+
+#[test]
+fn a_fault_that_cannot_be_planted_ends_with_status_2() {
+    for fault in ["no-such-fault", "second-word"] {
+        let output = compare(&["--plant", fault]);
+        let text = String::from_utf8_lossy(&output.stderr);
+        assert_eq!(output.status.code(), Some(2), "{fault}: {text}");
+        assert!(
+            text.contains(fault) && text.contains("faults to plant"),
+            "{text}"
+        );
+    }
+}
