@@ -97,6 +97,7 @@ impl From<SampleError> for Refusal {
 /// let error = sample(&mut rng, 200, 200, 0, &mut indices, &mut [0; 199]).unwrap_err();
 /// assert_eq!(error.refusal, Refusal::ScratchTooShort);
 /// ```
+#[inline]
 pub fn sample(
     rng: &mut Xoshiro256PlusPlus,
     length: u64,

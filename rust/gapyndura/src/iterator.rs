@@ -57,6 +57,7 @@ pub struct Filled {
 /// assert_eq!(sample_fill(&mut rng, &[1, 2, 3], &mut buf), Err(Refusal::ZeroState));
 /// assert_eq!(buf, [9]);
 /// ```
+#[inline]
 pub fn sample_fill(
     rng: &mut Xoshiro256PlusPlus,
     items: &[u32],
@@ -167,6 +168,7 @@ impl From<ChooseError> for Refusal {
 /// assert_eq!(refusal(&[2, 1, 0], &[1, 1, 0], 9), Err((Refusal::InvalidHints, 0)));
 /// assert_eq!(refusal(&[2, 1, 0], &none, 0), Err((Refusal::BudgetExhausted, 0)));
 /// ```
+#[inline]
 pub fn choose(
     rng: &mut Xoshiro256PlusPlus,
     items: &[u32],
@@ -214,6 +216,7 @@ pub fn choose(
 /// let error = choose_stable(&mut rng, &[7, 8], &[0; 3], &[u32::MAX; 3], 0).unwrap_err();
 /// assert_eq!((error.refusal, error.words), (Refusal::BudgetExhausted, 0));
 /// ```
+#[inline]
 pub fn choose_stable(
     rng: &mut Xoshiro256PlusPlus,
     items: &[u32],

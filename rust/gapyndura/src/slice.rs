@@ -70,6 +70,7 @@ impl<'a> Shuffled<'a> {
 /// assert_eq!(partial_shuffle(&mut rng, &mut items, 2), Err(Refusal::ZeroState));
 /// assert_eq!(items, [1, 2, 3]);
 /// ```
+#[inline]
 pub fn partial_shuffle<'a>(
     rng: &mut Xoshiro256PlusPlus,
     items: &'a mut [u32],
@@ -112,6 +113,7 @@ pub fn partial_shuffle<'a>(
 /// # Errors
 ///
 /// Those of [`partial_shuffle`].
+#[inline]
 pub fn shuffle<'a>(
     rng: &mut Xoshiro256PlusPlus,
     items: &'a mut [u32],
@@ -241,6 +243,7 @@ pub struct Viewed<'a, 'i, T> {
 /// let error = sample(&mut rng, &items, 201, 0, &mut indices, &mut []).unwrap_err();
 /// assert_eq!(error.refusal, Refusal::SliceTooShort);
 /// ```
+#[inline]
 pub fn sample<'a, 'i, T>(
     rng: &mut Xoshiro256PlusPlus,
     items: &'a [T],

@@ -112,6 +112,7 @@ impl WeightedIndex {
     /// assert_eq!(WeightedIndex::new(&[0, 0], &mut [0]), Err(Refusal::InsufficientNonZero));
     /// assert_eq!(WeightedIndex::new(&[1, u32::MAX], &mut [0]), Err(Refusal::Overflow));
     /// ```
+    #[inline]
     pub fn new(weights: &[u32], cumulative_weights: &mut [u32]) -> Result<Self, Refusal> {
         let mut table = [0; 2];
         // SAFETY: the pointer of a slice is not null, also where the slice is empty, is aligned, and is good for the slice's
@@ -166,6 +167,7 @@ impl WeightedIndex {
     /// assert_eq!((table.total_weight, sums), (5, [1]));
     /// # Ok::<(), Refusal>(())
     /// ```
+    #[inline]
     pub fn update_weights(
         &mut self,
         cumulative_weights: &mut [u32],
@@ -220,6 +222,7 @@ impl WeightedIndex {
     /// assert_eq!(table.weight(&[2, 6], 0), Err(Refusal::InvalidTable));
     /// assert_eq!(table.weight(&[2, 5], 0), Ok(Some(2)));
     /// ```
+    #[inline]
     pub fn weight(self, cumulative_weights: &[u32], place: u64) -> Result<Option<u32>, Refusal> {
         let mut out = [0; 2];
         // SAFETY: as in `new`.
@@ -273,6 +276,7 @@ impl WeightedIndex {
     /// assert_eq!((error.refusal, error.words), (Refusal::BudgetExhausted, 1));
     /// assert_ne!(rng.state(), [0, 0, 1, 0]);
     /// ```
+    #[inline]
     pub fn sample(
         self,
         rng: &mut Xoshiro256PlusPlus,

@@ -28,6 +28,7 @@ impl Xoshiro256PlusPlus {
     /// assert_eq!(zero, Xoshiro256PlusPlus::seed_from_u64(0));
     /// ```
     #[must_use]
+    #[inline]
     pub fn from_seed(seed: [u8; 32]) -> Self {
         let mut state = [0; 4];
         gapyndura_from_seed(&seed, &mut state);
@@ -46,6 +47,7 @@ impl Xoshiro256PlusPlus {
     /// );
     /// ```
     #[must_use]
+    #[inline]
     pub fn seed_from_u64(seed: u64) -> Self {
         let mut state = [0; 4];
         gapyndura_seed_from_u64(seed, &mut state);
@@ -103,6 +105,7 @@ impl Xoshiro256PlusPlus {
     /// assert_eq!(rng.next_u32(), Err(Refusal::ZeroState));
     /// assert_eq!(rng.state(), [0; 4]);
     /// ```
+    #[inline]
     pub fn next_u32(&mut self) -> Result<u32, Refusal> {
         let mut out = [0; 2];
         let number = gapyndura_next_u32(&mut self.state, &mut out);
