@@ -12,13 +12,13 @@ use borrow.Author.Tests.{eq-eqb, ne-eqb}
 use Rattle.xoshiro256plusplus.specs.declared.Xoshiro256PlusPlus.{Xoshiro256PlusPlus}
 use Rattle.uniform_int.specs.Bounded.{bounded}
 use Rattle.uniform_int.specs.Draws.{Draws, draws, before}
-use Rattle.uniform_int.proofs.Laws.{words-le, draws-nil, draws-cons}
+use Rattle.uniform_int.proofs.Laws.{words-le, draws-nil, draws-rising}
 use Rattle.counting.specs.Bounds.{rising}
 use Rattle.index.specs.Floyd.{replaced, floydFrom, floydOf, floydBounds}
 use Rattle.index.specs.Sample.{FloydSample}
 use Rattle.index.specs.declared.floyd.Position.{Position}
 use Rattle.index.specs.declared.floyd.Position.the-variants.{At, Nowhere}
-use Rattle.index.specs.declared.reading.Reading.{Reading}
+use Rattle.uniform_int.specs.declared.Reading.{Reading}
 use Rattle.index.proofs.Replaced.{hit, miss, length-replaced}
 
 -- ---- the search
@@ -76,13 +76,6 @@ module _ (t j : ℕ) where
 
 -- ---- the loop
 
-one-draw : (j end : ℕ) (g : Xoshiro256PlusPlus) → j < end
-    → draws (rising j (end - j)) g ≡ before (bounded (j + 1) g .value) (bounded (j + 1) g .words) (draws (rising (j + 1) (end - (j + 1))) (bounded (j + 1) g .rng))
-unfolding rising
-one-draw j end g h =
-    let n : end - j ≡ suc (end - (j + 1)) = omega arith in
-    rw (n, add-one j) (draws-cons (suc j) (rising (suc j) (end - suc j)) g)
-
 -- before the turn at j, from the list l₀ and the generator g₀ on: what is left to do gives the whole
 pub record Turn (start amount end : ℕ) (g₀ : Xoshiro256PlusPlus) (l₀ : List ℕ) (g : Xoshiro256PlusPlus) (l : List ℕ) (words j : ℕ) : Type 0 where
   pub from : start ≤ j
@@ -125,7 +118,7 @@ module _ (start amount end : ℕ) (sum : start + amount ≡ end) (g₀ : Xoshiro
         let parts : l′ ≡ front ++ drop (j - start + 1) l = el ∙ sym (append-assoc (replaced t j (take (j - start) l)) (t ∷ []) (drop (j - start + 1) l)) in
         let held′ : take (j - start + 1) l′ ≡ front = rw parts (take-at front (drop (j - start + 1) l) (j - start + 1) here) in
         let rest′ : drop (j - start + 1) l′ ≡ drop (j - start + 1) l = rw parts (drop-at front (drop (j - start + 1) l) (j - start + 1) here) in
-        let one = one-draw j end g h in
+        let one = draws-rising j end g h in
         let drawn : floydFrom j (take (j - start) l) (draws (rising j (end - j)) g .values) ≡ floydFrom (j + 1) front (later .values) =
         ap (λ (d : Draws). floydFrom j (take (j - start) l) (d .values)) one ∙ ap (λ (m : ℕ). floydFrom m front (later .values)) (sym (add-one j)) in
         record {

@@ -18,7 +18,7 @@ use Rattle.index.specs.InPlace.{upTo, swapsFrom, arranged, falling}
 use Rattle.index.proofs.InPlaceShares.{length-upTo}
 use Rattle.index.proofs.Samples.{swaps-keep}
 
--- ---- a front that grows: counting up, and copying
+-- ---- a front that grows: counting up
 
 set-front : (front rest : List ℕ) (x v : ℕ) → set (front ++ (x ∷ rest)) (length front) v ≡ front ++ (v ∷ rest)
 set-front [] rest x v = refl
@@ -40,11 +40,6 @@ counted-none l = refl
 pub counted : (l : List ℕ) (i : ℕ) → i < length l → set (upTo i ++ drop i l) i i ≡ upTo (i + 1) ++ drop (i + 1) l
 unfolding upTo
 counted l i h = grown (upTo i) l i i (length-upTo i) h ∙ ap (λ (n : ℕ). upTo n ++ drop (i + 1) l) (sym (add-one i))
-
-pub copied : (s l : List ℕ) (i : ℕ) → i < length s → i < length l → set (take i s ++ drop i l) i (getD s i 0) ≡ take (i + 1) s ++ drop (i + 1) l
-copied s l i g h =
-    grown (take i s) l i (getD s i 0) (length-take-le i s (omega arith)) h
-    ∙ ap (λ (f : List ℕ). f ++ drop (i + 1) l) (sym (take-suc s i 0 g) ∙ ap (λ (n : ℕ). take n s) (sym (add-one i)))
 
 -- ---- the exchanges
 

@@ -17,7 +17,7 @@ use Rattle.crossover.specs.declared.Method.the-variants.{Floyd, InPlace, Reject
 use Rattle.index.specs.Floyd.{floydOf, floydBounds}
 use Rattle.index.specs.InPlace.{swapsFrom, arranged, falling}
 use Rattle.index.specs.Rejection.{Found, foundOf}
-use Rattle.index.specs.declared.reading.Reading.{Reading}
+use Rattle.uniform_int.specs.declared.Reading.{Reading}
 use Rattle.refusal.specs.declared.Outcome.{Outcome}
 use Rattle.refusal.specs.declared.Outcome.the-variants.{Done, Refused}
 use Rattle.index.specs.declared.IndexSample.{IndexSample}

@@ -5,7 +5,7 @@ ghost use Prim.Native.Nat.{_+_, _≤_, _<_};
 ghost use lib.ListN.{length, take, drop};
 ghost use Rattle.index.specs.Floyd.{replaced};
 ghost use Rattle.index.specs.Sample.{FloydSample};
-use super::reading::Reading;
+use uniform_int::Reading;
 use uniform_int::random_range;
 use xoshiro256plusplus::Xoshiro256PlusPlus;
 

@@ -2,11 +2,12 @@
 ghost use mathlib.Core.List.{_++_};
 ghost use mathlib.Core.Path.{_≡_};
 ghost use Prim.Native.Nat.{_≤_};
-ghost use lib.ListN.{length, take, drop};
+ghost use lib.ListN.{length, drop};
 ghost use Rattle.index.specs.InPlace.{upTo};
 ghost use Rattle.index.specs.Sample.{Swapped, InPlaceSample};
-use super::reading::Reading;
+use counting::copy_front;
 use counting::swap;
+use uniform_int::Reading;
 use uniform_int::random_range;
 use xoshiro256plusplus::Xoshiro256PlusPlus;
 
@@ -43,17 +44,6 @@ fn swap_front(rng: Xoshiro256PlusPlus, length: u32, amount: u32, scratch: &mut [
     }
 }
 
-// Copies the first `amount` entries.
-fn copy_front(amount: u32, scratch: &[u32], indices: &mut [u32])
-    requires { ⌜ (amount ≤ length (now scratch)) × (amount ≤ length (now indices)) ⌝ }
-    ensures { λ _. ⌜ now (indices .exit) ≡ take amount (now (scratch .entry)) ++ drop amount (now (indices .entry)) ⌝ }
-{
-    for i in 0..amount {
-        let at = i as usize;
-        indices[at] = scratch[at];
-    }
-}
-
 // Puts a sample of `amount` indices below `length` at the front of `indices`, and leaves all indices below `length`, as they were
 // exchanged, at the front of `scratch`. Each sample comes from one list of draws: `in-place` of `IndexShares`. The definition is `arranged`.
 pub(crate) fn sample_inplace(
@@ -68,6 +58,6 @@ pub(crate) fn sample_inplace(
 {
     count_up(length, scratch);
     let reading = swap_front(rng, length, amount, scratch);
-    copy_front(amount, scratch, indices);
+    copy_front(scratch, amount as usize, indices);
     reading
 }

@@ -5,15 +5,14 @@ use crossover::Method;
 use crossover::choose_method;
 use floyd::sample_floyd;
 use in_place::sample_inplace;
-use reading::Reading;
 use refusal::Outcome;
 use refusal::Refusal;
 use rejection::sample_rejection;
+use uniform_int::Reading;
 use xoshiro256plusplus::Xoshiro256PlusPlus;
 
 mod floyd;
 mod in_place;
-mod reading;
 mod rejection;
 mod seen;
 

@@ -13,7 +13,7 @@ use Rattle.iterator.specs.Reservoir.{fillOf}
 use Rattle.iterator.specs.Fill.{FrontFilled, Replaced, refuses, fills, sampleFillOf}
 use Rattle.refusal.specs.declared.Outcome.the-variants.{Done}
 use Rattle.refusal.specs.Answer.{answerOf}
-use Rattle.iterator.specs.declared.reservoir.Reading.{Reading}
+use Rattle.uniform_int.specs.declared.Reading.{Reading}
 use Rattle.iterator.proofs.ReservoirTurns.{front-length}
 
 module _ (g : Xoshiro256PlusPlus) (items buf : List ℕ) where

@@ -9,22 +9,17 @@ use native.Mathlib.Numerals.{add-one}
 use native.Mathlib.Omega.{arith}
 use lib.Dec.{leb}
 use lib.ListN.{length, take, drop, getD, set, length-append, length-take, length-drop, length-set, drop-of-length-le}
-use lib.Seq.{take-all, take-length, drop-length, drop-cons, set-out, paste-suc}
+use lib.Seq.{take-all, take-length, drop-length, drop-cons, set-out}
 use borrow.Author.Tests.{leb-true, leb-false}
 use Rattle.counting.specs.Bounds.{rising}
 use Rattle.xoshiro256plusplus.specs.declared.Xoshiro256PlusPlus.{Xoshiro256PlusPlus}
 use Rattle.uniform_int.specs.Bounded.{bounded}
 use Rattle.uniform_int.specs.Draws.{Draws, draws, before}
-use Rattle.uniform_int.proofs.Laws.{words-le, draws-cons}
+use Rattle.uniform_int.proofs.Laws.{words-le, draws-rising}
 use Rattle.iterator.specs.Reservoir.{fillFront, fillFrom, fillBounds}
 use Rattle.iterator.specs.Fill.{Replaced}
 
 -- ---- the first items
-
--- one more item is copied
-pub copied : (items l : List ℕ) (i : ℕ) → i < length items → i < length l
-    → set (take i items ++ drop i l) i (getD items i 0) ≡ take (i + 1) items ++ drop (i + 1) l
-copied items l i g h = rw (add-one i) (rw (zero-add, zero-add) at (paste-suc l 0 items i 0 (omega arith) g))
 
 -- as many are copied as there are, or as there are slots
 pub all-copied : (items l : List ℕ) (n : ℕ) → n ≡ min (length items) (length l) → take n items ++ drop n l ≡ fillFront l items
@@ -51,10 +46,8 @@ front-length items l =
 -- the draw for the item at p, and the draws for those after it
 one-draw : (p n : ℕ) (g : Xoshiro256PlusPlus) → p < n
     → draws (fillBounds p n) g ≡ before (bounded (p + 1) g .value) (bounded (p + 1) g .words) (draws (fillBounds (p + 1) n) (bounded (p + 1) g .rng))
-unfolding fillBounds rising
-one-draw p n g h =
-    let e : n - p ≡ suc (n - (p + 1)) = omega arith in
-    rw (e, add-one p) (draws-cons (suc p) (rising (suc p) (n - suc p)) g)
+unfolding fillBounds
+one-draw p n g h = draws-rising p n g h
 
 -- before the item at p, from the buffer l₀ and the generator g₀ on: what is left to do gives the whole
 pub record Turn (items : List ℕ) (g₀ : Xoshiro256PlusPlus) (l₀ : List ℕ) (g : Xoshiro256PlusPlus) (l : List ℕ) (words p : ℕ) : Type 0 where

@@ -12,7 +12,7 @@ use Rattle.xoshiro256plusplus.specs.Generator.{zeroState}
 use Rattle.xoshiro256plusplus.specs.declared.Xoshiro256PlusPlus.{Xoshiro256PlusPlus}
 use Rattle.uniform_int.specs.Draws.{draws}
 use Rattle.iterator.specs.Reservoir.{fillFront, fillFrom, fillOf, fillBounds}
-use Rattle.iterator.specs.declared.reservoir.Reading.{Reading}
+use Rattle.uniform_int.specs.declared.Reading.{Reading}
 use Rattle.refusal.specs.declared.Outcome.{Outcome}
 use Rattle.refusal.specs.declared.Outcome.the-variants.{Done, Refused}
 use Rattle.iterator.specs.declared.Filled.{Filled}

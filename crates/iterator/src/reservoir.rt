@@ -3,14 +3,10 @@ ghost use mathlib.Core.Path.{_≡_};
 ghost use Prim.Native.Nat.{_-_, _^_, _≤_, min};
 ghost use lib.ListN.{length};
 ghost use Rattle.iterator.specs.Fill.{FrontFilled, Replaced};
+use counting::copy_front;
+use uniform_int::Reading;
 use uniform_int::random_range;
 use xoshiro256plusplus::Xoshiro256PlusPlus;
-
-// The words read, and the generator after them.
-pub struct Reading {
-    pub words: u64,
-    pub rng: Xoshiro256PlusPlus,
-}
 
 // The smaller of the two.
 fn smaller(a: usize, b: usize) -> usize
@@ -27,9 +23,7 @@ pub(crate) fn fill_front(items: &[u32], buf: &mut [u32]) -> usize
     ensures { λ r. ⌜ FrontFilled (now (items .entry)) (now (buf .entry)) (now (buf .exit)) r ⌝ }
 {
     let count = smaller(items.len(), buf.len());
-    for i in 0..count {
-        buf[i] = items[i];
-    }
+    copy_front(items, count, buf);
     count
 }
 

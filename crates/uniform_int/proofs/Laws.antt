@@ -14,6 +14,7 @@ use borrow.Author.Tests.{lt-ltb, le-ltb, le-leb, lt-leb, leb-true}
 use Rattle.xoshiro256plusplus.specs.Generator.{word, advance, steps}
 use Rattle.xoshiro256plusplus.specs.declared.Xoshiro256PlusPlus.{Xoshiro256PlusPlus}
 use Rattle.xoshiro256plusplus.proofs.Laws.{word-lt, steps-zero, steps-one, steps-add}
+use Rattle.counting.specs.Bounds.{rising}
 use Rattle.counting.specs.Lists.{Within}
 use Rattle.refusal.specs.Answer.{done, declined}
 use Rattle.refusal.specs.declared.Refusal.the-variants.{BudgetExhausted}
@@ -165,6 +166,14 @@ pub draws-cons : (r : ℕ) (rs : List ℕ) (g : Xoshiro256PlusPlus)
     → draws (r ∷ rs) g ≡ before (bounded r g .value) (bounded r g .words) (draws rs (bounded r g .rng))
 unfolding draws
 draws-cons r rs g = refl
+
+-- bounds that go up to an end: the draw at j, and the draws after it
+pub draws-rising : (j end : ℕ) (g : Xoshiro256PlusPlus) → j < end
+    → draws (rising j (end - j)) g ≡ before (bounded (j + 1) g .value) (bounded (j + 1) g .words) (draws (rising (j + 1) (end - (j + 1))) (bounded (j + 1) g .rng))
+unfolding rising
+draws-rising j end g h =
+    let n : end - j ≡ suc (end - (j + 1)) = omega arith in
+    rw (n, add-one j) (draws-cons (suc j) (rising (suc j) (end - suc j)) g)
 
 -- every bound is at least 1
 abbrev pub Positive : List ℕ → Type 0

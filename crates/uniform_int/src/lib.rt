@@ -17,6 +17,12 @@ pub struct Drawn {
     pub rng: Xoshiro256PlusPlus,
 }
 
+// What was read for several draws: the words, and the generator after them.
+pub struct Reading {
+    pub words: u64,
+    pub rng: Xoshiro256PlusPlus,
+}
+
 // The value that two words give: the product's upper word, with the carry of the second word's product.
 fn of_two_words(a: u32, b: u32, range: u32) -> u32
     requires { ⌜ 0 < range ⌝ }
