@@ -1,4 +1,4 @@
-// Views of drawn items: `sample` of crate slice, and the view's own `next` and `len`, run to the view's end and past it. A line is
+// Views of drawn items: `sample` of crate indexed_samples, and the view's own `next` and `len`, run to the view's end and past it. A line is
 //     indexed_samples S0 S1 S2 S3 N AMOUNT BUDGET INDICES SCRATCH
 // with the generator's state, how many items there are, the amount, the budget, and how many entries the slice of indices and the scratch slice
 // have. The items are 7, 10, 13, ..: item i is 3 i + 7. Each slice has 50,176 entries where more are asked for, and the entries of the last two are
@@ -16,10 +16,9 @@ use super::slices::count_from;
 use super::slices::entries;
 use super::slices::put_front;
 use super::text::Numbers;
-use slice::indexed_samples::Item;
-use slice::running::len_at;
-use slice::running::next_at;
-use slice::running::sample_items;
+use super::views::ask;
+use super::views::sample_items;
+use indexed_samples::Item;
 
 fn is_none(item: Item) -> bool {
     match item {
@@ -28,19 +27,14 @@ fn is_none(item: Item) -> bool {
     }
 }
 
-// Whether a view shows none at a place, stays there, and does the same once more.
-fn has_ended<'a>(items: &'a [u32], indices: &'a [u32], place: usize) -> bool {
-    let first = next_at(items, indices, place);
-    let second = next_at(items, indices, first.place);
+// The view's `len` at the place where its run ended, and 1 or 0: whether it shows none there, stays, and does the same once more.
+fn put_end<'a>(items: &'a [u32], indices: &'a [u32], place: usize) {
+    let first = ask(items, indices, place);
+    let second = ask(items, indices, first.place);
     let one = first.item;
     let other = second.item;
-    is_none(one) && is_none(other) && second.place == place
-}
-
-// The view's `len` at the place where its run ended, and 1 or 0.
-fn put_end<'a>(items: &'a [u32], indices: &'a [u32], place: usize) {
-    put(len_at(items, indices, place) as u64);
-    if has_ended(items, indices, place) {
+    put(first.len as u64);
+    if is_none(one) && is_none(other) && second.place == place {
         put(1);
     } else {
         put(0);
