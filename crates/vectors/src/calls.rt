@@ -9,6 +9,7 @@ use super::sampling;
 use super::shuffling;
 use super::text::Numbers;
 use super::text::name_end;
+use super::text::number;
 use super::text::read_numbers;
 use super::viewing;
 use super::weights;
@@ -22,21 +23,19 @@ use xoshiro256plusplus::Xoshiro256PlusPlus;
 
 // The generator whose state is the first four numbers.
 pub fn generator(n: Numbers) -> Xoshiro256PlusPlus {
-    let values = n.values;
     Xoshiro256PlusPlus {
-        s0: values[0],
-        s1: values[1],
-        s2: values[2],
-        s3: values[3],
+        s0: number(n, 0),
+        s1: number(n, 1),
+        s2: number(n, 2),
+        s3: number(n, 3),
     }
 }
 
 // The first 32 numbers as bytes.
 fn seed(n: Numbers) -> [u8; 32] {
-    let values = n.values;
     let mut bytes = [0u8; 32];
     for i in 0..32usize {
-        bytes[i] = (values[i] % 256) as u8;
+        bytes[i] = (number(n, i) % 256) as u8;
     }
     bytes
 }
@@ -52,7 +51,7 @@ fn bound(n: u64) -> u32
 }
 
 // What is read again and again from one generator.
-pub enum Reading {
+enum Reading {
     Output,
     Word,
     Bounded(u64),
@@ -86,7 +85,7 @@ fn bounded(rng: Xoshiro256PlusPlus, range: u64) -> Xoshiro256PlusPlus {
 }
 
 // One reading, written. The generator after it is returned.
-pub fn read_once(reading: Reading, rng: Xoshiro256PlusPlus) -> Xoshiro256PlusPlus {
+fn read_once(reading: Reading, rng: Xoshiro256PlusPlus) -> Xoshiro256PlusPlus {
     match reading {
         Reading::Output => {
             let o = rng.next_u64();
@@ -117,47 +116,51 @@ fn read_all(reading: Reading, rng: Xoshiro256PlusPlus, count: u64) {
     put_state(state);
 }
 
-// Makes the call, if it is one of those that lend a struct or hold one that borrows.
-fn make_lent(name: &[u8], n: Numbers) {
-    if same(name, b"indexed_samples") {
-        viewing::view(n);
-    }
-    if same(name, b"lent_words") {
-        lending::draw_words(n, false);
-    }
-    if same(name, b"lent_mixed") {
-        lending::draw_words(n, true);
-    }
-}
-
-// Makes the call on a line and writes its answer.
-pub fn make(line: &[u8]) {
-    let end = name_end(line);
-    let name = &line[..end];
-    let n = read_numbers(line, end);
-    let values = n.values;
-    make_lent(name, n);
+// Makes the call on a line, if it is a seeding.
+fn make_seeding(name: &[u8], n: Numbers) {
     if same(name, b"seed_from_u64") {
-        put_state(Xoshiro256PlusPlus::seed_from_u64(values[0]));
+        put_state(Xoshiro256PlusPlus::seed_from_u64(number(n, 0)));
     }
     if same(name, b"from_seed") {
         put_state(Xoshiro256PlusPlus::from_seed(seed(n)));
     }
+}
+
+// Makes the call on a line, if it reads words.
+fn make_words(name: &[u8], n: Numbers) {
     if same(name, b"next_u64") {
-        read_all(Reading::Output, generator(n), values[4]);
+        read_all(Reading::Output, generator(n), number(n, 4));
     }
     if same(name, b"next_u32") {
-        read_all(Reading::Word, generator(n), values[4]);
+        read_all(Reading::Word, generator(n), number(n, 4));
     }
+    if same(name, b"lent_words") {
+        lending::draw_words(n);
+    }
+}
+
+// Makes the call on a line, if it draws below a bound.
+fn make_draws(name: &[u8], n: Numbers) {
     if same(name, b"random_range") {
-        read_all(Reading::Bounded(values[4]), generator(n), values[5]);
+        read_all(Reading::Bounded(number(n, 4)), generator(n), number(n, 5));
     }
     if same(name, b"random_range_within") {
-        let reading = Reading::Within(values[4], values[5]);
-        read_all(reading, generator(n), values[6]);
+        let reading = Reading::Within(number(n, 4), number(n, 5));
+        read_all(reading, generator(n), number(n, 6));
     }
+    if same(name, b"uniform_int") {
+        let reading = Reading::Rejecting(number(n, 4), number(n, 5));
+        read_all(reading, generator(n), number(n, 6));
+    }
+}
+
+// Makes the call on a line, if it is a sample or a shuffle.
+fn make_sample(name: &[u8], n: Numbers) {
     if same(name, b"sample") {
         sampling::sample(n);
+    }
+    if same(name, b"indexed_samples") {
+        viewing::view(n);
     }
     if same(name, b"partial_shuffle") {
         shuffling::partially(n);
@@ -165,6 +168,10 @@ pub fn make(line: &[u8]) {
     if same(name, b"shuffle") {
         shuffling::wholly(n);
     }
+}
+
+// Makes the call on a line, if it is a fill, a choice or a table of weights.
+fn make_choice(name: &[u8], n: Numbers) {
     if same(name, b"sample_fill") {
         filling::fill(n);
     }
@@ -177,8 +184,16 @@ pub fn make(line: &[u8]) {
     if same(name, b"weighted_index") {
         weights::weigh(n);
     }
-    if same(name, b"uniform_int") {
-        let reading = Reading::Rejecting(values[4], values[5]);
-        read_all(reading, generator(n), values[6]);
-    }
+}
+
+// Makes the call on a line and writes its answer.
+pub fn make(line: &[u8]) {
+    let end = name_end(line);
+    let name = &line[..end];
+    let n = read_numbers(line, end);
+    make_seeding(name, n);
+    make_words(name, n);
+    make_draws(name, n);
+    make_sample(name, n);
+    make_choice(name, n);
 }

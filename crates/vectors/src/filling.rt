@@ -8,6 +8,7 @@ use super::slices::count_up;
 use super::slices::entries;
 use super::slices::put_front;
 use super::text::Numbers;
+use super::text::number;
 use iterator::sample_fill;
 
 // The number, the slots filled, the words, the front of the buffer, its hash and the state.
@@ -24,10 +25,9 @@ fn fill_into(n: Numbers, items: &mut [u32], buf: &mut [u32]) {
 }
 
 pub fn fill(n: Numbers) {
-    let values = n.values;
     let mut items = entries();
     let mut buf = entries();
-    let count = at_most(values[4], &items);
-    let slots = at_most(values[5], &buf);
+    let count = at_most(number(n, 4), &items);
+    let slots = at_most(number(n, 5), &buf);
     fill_into(n, &mut items[..count], &mut buf[..slots]);
 }

@@ -8,6 +8,7 @@ use super::slices::count_up;
 use super::slices::entries;
 use super::slices::put_front;
 use super::text::Numbers;
+use super::text::number;
 use slice::Shuffled;
 use slice::head;
 use slice::partial_shuffle;
@@ -34,20 +35,18 @@ fn put_parts(items: &mut [u32], at: u64) {
 
 // A partial shuffle: the number, n, the words, the front, the hash of the whole, the parts at a place, and the state.
 fn partial_shuffle_of(n: Numbers, items: &mut [u32]) {
-    let values = n.values;
     count_up(items);
-    let s = partial_shuffle(generator(n), items, values[5]);
+    let s = partial_shuffle(generator(n), items, number(n, 5));
     put_shuffled(s);
     put_front(items);
     put(hash(items));
-    put_parts(items, values[6]);
+    put_parts(items, number(n, 6));
     put_state(s.rng);
 }
 
 pub fn partially(n: Numbers) {
-    let values = n.values;
     let mut items = entries();
-    let len = at_most(values[4], &items);
+    let len = at_most(number(n, 4), &items);
     partial_shuffle_of(n, &mut items[..len]);
 }
 
@@ -62,8 +61,7 @@ fn shuffle_of(n: Numbers, items: &mut [u32]) {
 }
 
 pub fn wholly(n: Numbers) {
-    let values = n.values;
     let mut items = entries();
-    let len = at_most(values[4], &items);
+    let len = at_most(number(n, 4), &items);
     shuffle_of(n, &mut items[..len]);
 }

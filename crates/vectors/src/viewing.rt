@@ -16,6 +16,9 @@ use super::slices::count_from;
 use super::slices::entries;
 use super::slices::put_front;
 use super::text::Numbers;
+use super::text::number;
+use super::views::Collected;
+use super::views::ItemsSample;
 use super::views::ask;
 use super::views::sample_items;
 use indexed_samples::Item;
@@ -41,30 +44,8 @@ fn put_end<'a>(items: &'a [u32], indices: &'a [u32], place: usize) {
     }
 }
 
-// The hash of the items shown, and the first of them.
-fn put_shown(shown: &[u32]) {
-    put(hash(shown));
-    put_front(shown);
-}
-
-// Draws the view, runs it, and writes the answer.
-fn view_with<'a>(
-    n: Numbers,
-    items: &'a [u32],
-    indices: &'a mut [u32],
-    scratch: &mut [u32],
-    slots: &mut [u32],
-) {
-    let values = n.values;
-    let made = sample_items(
-        generator(n),
-        items,
-        values[5],
-        values[6],
-        indices,
-        scratch,
-        slots,
-    );
+// The draw's number, the view's `len` at its start, the words, and the hashes of both slices.
+fn put_drawn(made: ItemsSample, indices: &[u32], scratch: &[u32]) {
     let sampled = made.sampled;
     let collected = made.collected;
     let outcome = sampled.outcome;
@@ -73,10 +54,42 @@ fn view_with<'a>(
     put(sampled.words);
     put(hash(indices));
     put(hash(scratch));
-    let shown = at_most(collected.place as u64, slots);
+}
+
+// The hash of the items shown, and the first of them.
+fn put_shown(shown: &[u32]) {
+    put(hash(shown));
+    put_front(shown);
+}
+
+// The run: what it has shown, and its end.
+fn put_run<'a>(run: Collected, items: &'a [u32], indices: &'a [u32], slots: &[u32]) {
+    let shown = at_most(run.place as u64, slots);
     put_shown(&slots[..shown]);
-    let len = at_most(collected.len as u64, indices);
-    put_end(items, &indices[..len], collected.place);
+    let len = at_most(run.len as u64, indices);
+    put_end(items, &indices[..len], run.place);
+}
+
+// Draws the view, runs it, and writes the answer.
+fn view_with(
+    n: Numbers,
+    items: &[u32],
+    indices: &mut [u32],
+    scratch: &mut [u32],
+    slots: &mut [u32],
+) {
+    let made = sample_items(
+        generator(n),
+        items,
+        number(n, 5),
+        number(n, 6),
+        indices,
+        scratch,
+        slots,
+    );
+    let sampled = made.sampled;
+    put_drawn(made, indices, scratch);
+    put_run(made.collected, items, indices, slots);
     put_state(sampled.rng);
 }
 
@@ -93,14 +106,13 @@ fn view_of(
 }
 
 pub fn view(n: Numbers) {
-    let values = n.values;
     let mut items = entries();
     let mut indices = entries();
     let mut scratch = entries();
     let mut slots = entries();
-    let count = at_most(values[4], &items);
-    let a = at_most(values[7], &indices);
-    let b = at_most(values[8], &scratch);
+    let count = at_most(number(n, 4), &items);
+    let a = at_most(number(n, 7), &indices);
+    let b = at_most(number(n, 8), &scratch);
     view_of(
         n,
         &mut items[..count],

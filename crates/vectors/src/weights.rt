@@ -12,6 +12,7 @@ use super::hash::hash;
 use super::slices::at_most;
 use super::slices::entries;
 use super::text::Numbers;
+use super::text::number;
 use weighted_index::answer::Choice;
 use weighted_index::answer::Looked;
 use weighted_index::answer::Lookup;
@@ -24,15 +25,6 @@ use weighted_index::pick::sample;
 use weighted_index::table::weight;
 use weighted_index::update::update_weights;
 
-// The number at a place of a line, and 0 behind the last.
-fn number_at(n: Numbers, at: usize) -> u64 {
-    let values = n.values;
-    if at >= 40 {
-        return 0;
-    }
-    values[at]
-}
-
 // The numbers from `from` on as places.
 fn places_from(n: Numbers, from: usize) -> [u64; 40]
     requires { ⌜ from ≤ 100 ⌝ }
@@ -40,7 +32,7 @@ fn places_from(n: Numbers, from: usize) -> [u64; 40]
 {
     let mut row = [0u64; 40];
     for i in 0..40usize {
-        row[i] = number_at(n, from + i);
+        row[i] = number(n, from + i);
     }
     row
 }
@@ -52,7 +44,7 @@ fn weights_from(n: Numbers, from: usize) -> [u32; 40]
 {
     let mut row = [0u32; 40];
     for i in 0..40usize {
-        row[i] = (number_at(n, from + i) % 0x1_0000_0000) as u32;
+        row[i] = (number(n, from + i) % 0x1_0000_0000) as u32;
     }
     row
 }
@@ -161,33 +153,42 @@ fn change_table(
 
 // Looks a weight up and picks an item.
 fn use_table(n: Numbers, table: WeightedIndex, cumulative_weights: &[u32]) {
-    let values = n.values;
-    put_looked(weight(table, cumulative_weights, values[6]));
-    put_picked(sample(generator(n), table, cumulative_weights, values[4]));
+    put_looked(weight(table, cumulative_weights, number(n, 6)));
+    put_picked(sample(generator(n), table, cumulative_weights, number(n, 4)));
+}
+
+// The change, whose lists stand from `from` on.
+fn change_from(
+    n: Numbers,
+    from: usize,
+    table: WeightedIndex,
+    cumulative_weights: &mut [u32],
+) -> WeightedIndex
+    requires { ⌜ from ≤ 50 ⌝ }
+{
+    let places = places_from(n, from);
+    let changed = at_most_places(number(n, 8), &places);
+    let changes = weights_from(n, from + changed);
+    let given = at_most(number(n, 9), &changes);
+    change_table(
+        table,
+        cumulative_weights,
+        &places[..changed],
+        &changes[..given],
+    )
 }
 
 // The four calls, with the slice for the sums.
 fn weigh_with(n: Numbers, cumulative_weights: &mut [u32]) {
-    let values = n.values;
     let weights = weights_from(n, 10);
-    let count = at_most(values[7], &weights);
-    let places = places_from(n, 10 + count);
-    let changed = at_most_places(values[8], &places);
-    let changes = weights_from(n, 10 + count + changed);
-    let given = at_most(values[9], &changes);
+    let count = at_most(number(n, 7), &weights);
     let new_table = make_table(&weights[..count], cumulative_weights);
-    let table = change_table(
-        new_table,
-        cumulative_weights,
-        &places[..changed],
-        &changes[..given],
-    );
+    let table = change_from(n, 10 + count, new_table, cumulative_weights);
     use_table(n, table, cumulative_weights);
 }
 
 pub fn weigh(n: Numbers) {
-    let values = n.values;
     let mut sums = entries();
-    let room = at_most(values[5], &sums);
+    let room = at_most(number(n, 5), &sums);
     weigh_with(n, &mut sums[..room]);
 }

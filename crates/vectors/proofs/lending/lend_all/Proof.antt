@@ -1,20 +1,17 @@
--- `run` is safe and ends. Assumes nothing.
+-- `lend_all` is safe and ends. Assumes nothing.
 use Prim.Native.Nat.{_-_, _≤_}
 use borrow.Author.Needs.{needs}
-use Rattle.vectors.proofs.lending.run.Statement.{statement}
-use Rattle.vectors.proofs.lending.run.Tie as tie
+use Rattle.vectors.proofs.lending.lend_all.Statement.{statement}
+use Rattle.vectors.proofs.lending.lend_all.Tie as tie
 
 abbrev Inv-loop : tie.InvT-loop
-Inv-loop count is-mixed range budget state₀ counter₀ state counter = counter ≤ count
+Inv-loop count state₀ counter₀ state counter = counter ≤ count
 
 abbrev μ-loop : tie.MeasureT-loop
-μ-loop count is-mixed range budget state₀ counter₀ state counter = count - counter
+μ-loop count state₀ counter₀ state counter = count - counter
 
 loop-holds : tie.Need-loop-holds Inv-loop μ-loop
 loop-holds c = search needs
-
-round-requires : tie.Need-round-requires Inv-loop μ-loop
-round-requires c κs = search needs
 
 lend-requires : tie.Need-lend-requires Inv-loop μ-loop
 lend-requires c κs = search needs
@@ -37,14 +34,13 @@ put-state-requires c κs = search needs
 returns : tie.Need-returns Inv-loop μ-loop
 returns c = search needs
 
-pub run-spec : {M : Type 1} → statement M
-run-spec =
+pub lend-all-spec : {M : Type 1} → statement M
+lend-all-spec =
     tie.close
     (tie.spec
     Inv-loop
     μ-loop
     loop-holds
-    round-requires
     lend-requires
     add-counter
     loop-less
