@@ -2,6 +2,7 @@
 // a rule: see `lower_at` and `upper_at`.
 ghost use Prim.Native.Nat.{_≤_};
 use super::answers::put;
+use super::answers::put_refusal;
 use super::answers::put_state;
 use super::calls::generator;
 use super::slices::at_most;
@@ -90,9 +91,8 @@ fn put_hints(pattern: u64, n: u64, lower: &mut [u32], upper: &mut [u32])
     }
 }
 
-// The number, 1 and the item or 0 and 0, the words and the state.
-fn put_chosen(c: Chosen) {
-    let answer = c.answer;
+// The number, and 1 and the item or 0 and 0.
+fn put_choice(answer: Choice) {
     match answer {
         Choice::Item(x) => {
             put(0);
@@ -105,21 +105,37 @@ fn put_chosen(c: Chosen) {
             put(0);
         }
         Choice::Refused(why) => {
-            put(why.number() as u64);
+            put_refusal(why);
             put(0);
             put(0);
         }
     }
+}
+
+// The choice, the words and the state.
+fn put_chosen(c: Chosen) {
+    let answer = c.answer;
+    put_choice(answer);
     put(c.words);
     put_state(c.rng);
+}
+
+// `choose` with these lists.
+fn choose_any(n: Numbers, items: &[u32], lower: &[u32], upper: &[u32]) {
+    put_chosen(choose(generator(n), items, lower, upper, number(n, 4)));
+}
+
+// `choose_stable` with these lists.
+fn choose_stably(n: Numbers, items: &[u32], lower: &[u32], upper: &[u32]) {
+    put_chosen(choose_stable(generator(n), items, lower, upper, number(n, 4)));
 }
 
 // The choice with these lists.
 fn choose_with(n: Numbers, is_stable: bool, items: &[u32], lower: &[u32], upper: &[u32]) {
     if is_stable {
-        put_chosen(choose_stable(generator(n), items, lower, upper, number(n, 4)));
+        choose_stably(n, items, lower, upper);
     } else {
-        put_chosen(choose(generator(n), items, lower, upper, number(n, 4)));
+        choose_any(n, items, lower, upper);
     }
 }
 

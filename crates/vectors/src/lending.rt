@@ -3,6 +3,7 @@
 // It draws so many words one after another, 32 at most. Its answer has, for each, the number and the word; then the total of words read, and the
 // state. A word that is declined is 0: an all-zero state answers 12 and 0 each time, and stays.
 use super::answers::put;
+use super::answers::put_refusal;
 use super::answers::put_state;
 use super::calls::generator;
 use super::text::Numbers;
@@ -18,20 +19,25 @@ struct Lent {
     rng: Xoshiro256PlusPlus,
 }
 
-// A lent word: its number and the word. What is left is returned.
-fn lend(lent: Lent) -> Lent {
-    let stepped = lent_once(lent.rng);
-    let answer = stepped.answer;
+// A lent word: its number and the word.
+fn put_word(answer: Draw) {
     match answer {
         Draw::Word(w) => {
             put(0);
             put(w as u64);
         }
         Draw::Refused(why) => {
-            put(why.number() as u64);
+            put_refusal(why);
             put(0);
         }
     }
+}
+
+// Draws a lent word. What is left is returned.
+fn lend(lent: Lent) -> Lent {
+    let stepped = lent_once(lent.rng);
+    let answer = stepped.answer;
+    put_word(answer);
     let after = stepped.rng;
     Lent {
         words: wrapping_add_u64(lent.words, stepped.words),

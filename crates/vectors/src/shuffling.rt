@@ -1,12 +1,13 @@
 // Shuffles of the numbers 0, 1, .., and the parts that a partial shuffle leaves.
 use super::answers::put;
+use super::answers::put_outcome;
+use super::answers::put_slice;
 use super::answers::put_state;
 use super::calls::generator;
 use super::hash::hash;
 use super::slices::at_most;
 use super::slices::count_up;
 use super::slices::entries;
-use super::slices::put_front;
 use super::text::Numbers;
 use super::text::number;
 use slice::Shuffled;
@@ -18,7 +19,7 @@ use slice::tail;
 // The number, n and the words.
 fn put_shuffled(s: Shuffled) {
     let outcome = s.outcome;
-    put(outcome.number() as u64);
+    put_outcome(outcome);
     put(s.n);
     put(s.words);
 }
@@ -38,8 +39,7 @@ fn partial_shuffle_of(n: Numbers, items: &mut [u32]) {
     count_up(items);
     let s = partial_shuffle(generator(n), items, number(n, 5));
     put_shuffled(s);
-    put_front(items);
-    put(hash(items));
+    put_slice(items);
     put_parts(items, number(n, 6));
     put_state(s.rng);
 }
@@ -55,8 +55,7 @@ fn shuffle_of(n: Numbers, items: &mut [u32]) {
     count_up(items);
     let s = shuffle(generator(n), items);
     put_shuffled(s);
-    put_front(items);
-    put(hash(items));
+    put_slice(items);
     put_state(s.rng);
 }
 

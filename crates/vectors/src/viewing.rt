@@ -8,6 +8,7 @@
 //     1 where `next` gives none twice more and the view stays at its place, and else 0; the state.
 // A view whose draw is declined shows nothing: its `len` is 0, and its items have the hash of an empty slice.
 use super::answers::put;
+use super::answers::put_outcome;
 use super::answers::put_state;
 use super::calls::generator;
 use super::hash::hash;
@@ -21,6 +22,7 @@ use super::views::Collected;
 use super::views::ItemsSample;
 use super::views::ask;
 use super::views::sample_items;
+use index::IndexSample;
 use indexed_samples::Item;
 
 fn is_none(item: Item) -> bool {
@@ -44,14 +46,16 @@ fn put_end<'a>(items: &'a [u32], indices: &'a [u32], place: usize) {
     }
 }
 
-// The draw's number, the view's `len` at its start, the words, and the hashes of both slices.
-fn put_drawn(made: ItemsSample, indices: &[u32], scratch: &[u32]) {
-    let sampled = made.sampled;
-    let collected = made.collected;
+// How the draw ended, the view's `len` at its start, and the words.
+fn put_drawn(sampled: IndexSample, len: usize) {
     let outcome = sampled.outcome;
-    put(outcome.number() as u64);
-    put(collected.len as u64);
+    put_outcome(outcome);
+    put(len as u64);
     put(sampled.words);
+}
+
+// The hashes of both slices.
+fn put_hashes(indices: &[u32], scratch: &[u32]) {
     put(hash(indices));
     put(hash(scratch));
 }
@@ -70,27 +74,45 @@ fn put_run<'a>(run: Collected, items: &'a [u32], indices: &'a [u32], slots: &[u3
     put_end(items, &indices[..len], run.place);
 }
 
-// Draws the view, runs it, and writes the answer.
-fn view_with(
+// Draws the view and runs it.
+fn run_view(
     n: Numbers,
     items: &[u32],
     indices: &mut [u32],
     scratch: &mut [u32],
     slots: &mut [u32],
+) -> ItemsSample {
+    let amount = number(n, 5);
+    let budget = number(n, 6);
+    sample_items(generator(n), items, amount, budget, indices, scratch, slots)
+}
+
+// The answer: the draw, the run and the state.
+fn put_view<'a>(
+    made: ItemsSample,
+    items: &'a [u32],
+    indices: &'a [u32],
+    scratch: &[u32],
+    slots: &[u32],
 ) {
-    let made = sample_items(
-        generator(n),
-        items,
-        number(n, 5),
-        number(n, 6),
-        indices,
-        scratch,
-        slots,
-    );
     let sampled = made.sampled;
-    put_drawn(made, indices, scratch);
-    put_run(made.collected, items, indices, slots);
+    let run = made.collected;
+    put_drawn(sampled, run.len);
+    put_hashes(indices, scratch);
+    put_run(run, items, indices, slots);
     put_state(sampled.rng);
+}
+
+// Draws the view, runs it, and writes the answer.
+fn view_with<'a>(
+    n: Numbers,
+    items: &'a [u32],
+    indices: &'a mut [u32],
+    scratch: &mut [u32],
+    slots: &mut [u32],
+) {
+    let made = run_view(n, items, indices, scratch, slots);
+    put_view(made, items, indices, scratch, slots);
 }
 
 // Makes the items, and the view of them.

@@ -6,6 +6,7 @@ ghost use Prim.Native.Nat.{_≤_};
 ghost use lib.ListN.{length};
 ghost use Rattle.io.specs.Counts.{Counts};
 use super::answers::put;
+use super::answers::put_refusal;
 use super::answers::put_state;
 use super::calls::generator;
 use super::hash::hash;
@@ -61,17 +62,15 @@ fn at_most_places(n: u64, places: &[u64]) -> usize
 }
 
 // The record after a call: that of the table made, or the one before where the call is refused.
-fn record_after(outcome: Outcome, before: WeightedIndex) -> WeightedIndex {
-    let answer = outcome.answer;
+fn record_after(answer: Made, before: WeightedIndex) -> WeightedIndex {
     match answer {
         Made::Table(table) => table,
-        Made::Refused(why) => before,
+        Made::Refused(_) => before,
     }
 }
 
-// A new table or a change: the number, the record's count and total, the words and the hash of the sums.
-fn put_made(outcome: Outcome, cumulative_weights: &[u32]) {
-    let answer = outcome.answer;
+// The number, and the record's count and total or 0 and 0.
+fn put_record(answer: Made) {
     match answer {
         Made::Table(table) => {
             put(0);
@@ -79,18 +78,23 @@ fn put_made(outcome: Outcome, cumulative_weights: &[u32]) {
             put(table.total_weight as u64);
         }
         Made::Refused(why) => {
-            put(why.number() as u64);
+            put_refusal(why);
             put(0);
             put(0);
         }
     }
+}
+
+// A new table or a change: the number, the record, the words and the hash of the sums.
+fn put_made(outcome: Outcome, cumulative_weights: &[u32]) {
+    let answer = outcome.answer;
+    put_record(answer);
     put(outcome.words);
     put(hash(cumulative_weights));
 }
 
-// A lookup: the number, 1 and the weight or 0 and 0, and the words.
-fn put_looked(lookup: Lookup) {
-    let answer = lookup.answer;
+// The number, and 1 and the weight or 0 and 0.
+fn put_weight(answer: Looked) {
     match answer {
         Looked::Weight(w) => {
             put(0);
@@ -103,27 +107,38 @@ fn put_looked(lookup: Lookup) {
             put(0);
         }
         Looked::Refused(why) => {
-            put(why.number() as u64);
+            put_refusal(why);
             put(0);
             put(0);
         }
     }
+}
+
+// A lookup, and its words.
+fn put_looked(lookup: Lookup) {
+    let answer = lookup.answer;
+    put_weight(answer);
     put(lookup.words);
 }
 
-// A pick: the number, the index, the words and the state.
-fn put_picked(picked: Picked) {
-    let answer = picked.answer;
+// The number, and the index or 0.
+fn put_index(answer: Choice) {
     match answer {
         Choice::Item(i) => {
             put(0);
             put(i as u64);
         }
         Choice::Refused(why) => {
-            put(why.number() as u64);
+            put_refusal(why);
             put(0);
         }
     }
+}
+
+// A pick, the words and the state.
+fn put_picked(picked: Picked) {
+    let answer = picked.answer;
+    put_index(answer);
     put(picked.words);
     put_state(picked.rng);
 }
@@ -136,7 +151,8 @@ fn make_table(weights: &[u32], cumulative_weights: &mut [u32]) -> WeightedIndex 
     };
     let made = new(weights, cumulative_weights);
     put_made(made, cumulative_weights);
-    record_after(made, nothing)
+    let answer = made.answer;
+    record_after(answer, nothing)
 }
 
 // Changes the table, writes the answer, and gives the record afterwards.
@@ -148,7 +164,8 @@ fn change_table(
 ) -> WeightedIndex {
     let made = update_weights(table, cumulative_weights, places, weights);
     put_made(made, cumulative_weights);
-    record_after(made, table)
+    let answer = made.answer;
+    record_after(answer, table)
 }
 
 // Looks a weight up and picks an item.
