@@ -5,10 +5,3 @@ pub mod Shares
 pub mod Turns
 pub mod Cases
 pub mod Parts
-pub mod View
-pub mod ViewDraws
-pub mod Again
-pub mod Lies
-pub mod Shorter
-pub mod Collecting
-pub mod Reclaim

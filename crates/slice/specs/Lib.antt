@@ -2,5 +2,3 @@ pub mod Shuffle
 pub mod Shuffled
 pub mod Shares
 pub mod Parts
-pub mod View
-pub mod Collecting

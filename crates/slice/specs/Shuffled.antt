@@ -1,6 +1,6 @@
 -- What a shuffle leaves behind: the answer, the words read, the generator and the slice.
 use mathlib.Core.Bool.{cond}
-use mathlib.Core.List.{List, [], _∷_}
+use mathlib.Core.List.{List}
 use Prim.Native.Nat.{ℕ, _-_, _^_}
 use lib.Dec.{ltb}
 use lib.ListN.{length}
@@ -11,7 +11,6 @@ use Rattle.xoshiro256plusplus.specs.Generator.{zeroState}
 use Rattle.xoshiro256plusplus.specs.declared.Xoshiro256PlusPlus.{Xoshiro256PlusPlus}
 use Rattle.uniform_int.specs.Draws.{draws}
 use Rattle.slice.specs.Shuffle.{shuffleOf, shuffleBounds}
-use Rattle.refusal.specs.declared.Outcome.{Outcome}
 use Rattle.refusal.specs.declared.Outcome.the-variants.{Done, Refused}
 use Rattle.slice.specs.declared.Shuffled.{Shuffled}
 

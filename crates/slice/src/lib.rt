@@ -10,9 +10,6 @@ use refusal::Outcome;
 use refusal::Refusal;
 use xoshiro256plusplus::Xoshiro256PlusPlus;
 
-pub mod indexed_samples;
-pub mod running;
-
 // The outcome, the place where the shuffled tail starts, the words read, and the generator after them.
 pub struct Shuffled {
     pub outcome: Outcome,
@@ -97,7 +94,7 @@ pub fn shuffle(rng: Xoshiro256PlusPlus, items: &mut [u32]) -> Shuffled
 }
 
 // The place n, or the length where n is above it.
-pub(crate) fn clipped(n: u64, length: usize) -> usize
+pub fn clipped(n: u64, length: usize) -> usize
     ensures { λ r. ⌜ r ≡ min n length ⌝ }
 {
     let most = length as u64;

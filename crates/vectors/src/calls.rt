@@ -9,6 +9,7 @@ use super::sampling;
 use super::shuffling;
 use super::text::Numbers;
 use super::text::name_end;
+use super::text::number;
 use super::text::read_numbers;
 use super::viewing;
 use super::weights;
@@ -22,21 +23,19 @@ use xoshiro256plusplus::Xoshiro256PlusPlus;
 
 // The generator whose state is the first four numbers.
 pub fn generator(n: Numbers) -> Xoshiro256PlusPlus {
-    let values = n.values;
     Xoshiro256PlusPlus {
-        s0: values[0],
-        s1: values[1],
-        s2: values[2],
-        s3: values[3],
+        s0: number(n, 0),
+        s1: number(n, 1),
+        s2: number(n, 2),
+        s3: number(n, 3),
     }
 }
 
 // The first 32 numbers as bytes.
 fn seed(n: Numbers) -> [u8; 32] {
-    let values = n.values;
     let mut bytes = [0u8; 32];
     for i in 0..32usize {
-        bytes[i] = (values[i] % 256) as u8;
+        bytes[i] = (number(n, i) % 256) as u8;
     }
     bytes
 }
@@ -52,7 +51,7 @@ fn bound(n: u64) -> u32
 }
 
 // What is read again and again from one generator.
-pub enum Reading {
+enum Reading {
     Output,
     Word,
     Bounded(u64),
@@ -60,9 +59,8 @@ pub enum Reading {
     Rejecting(u64, u64),
 }
 
-// A draw under a budget: its number, its value and its words. The generator after it is returned.
-fn put_sampled(s: Sampled) -> Xoshiro256PlusPlus {
-    let draw = s.draw;
+// A draw under a budget: its number and its value.
+fn put_draw(draw: Draw) {
     match draw {
         Draw::Value(v) => {
             put(0);
@@ -73,8 +71,28 @@ fn put_sampled(s: Sampled) -> Xoshiro256PlusPlus {
             put(0);
         }
     }
+}
+
+// The same with its words. The generator after it is returned.
+fn put_sampled(s: Sampled) -> Xoshiro256PlusPlus {
+    let draw = s.draw;
+    put_draw(draw);
     put(s.words);
     s.rng
+}
+
+// An output of 64 bits.
+fn output(rng: Xoshiro256PlusPlus) -> Xoshiro256PlusPlus {
+    let o = rng.next_u64();
+    put(o.value);
+    o.rng
+}
+
+// A word.
+fn word(rng: Xoshiro256PlusPlus) -> Xoshiro256PlusPlus {
+    let w = rng.next_u32();
+    put(w.value as u64);
+    w.rng
 }
 
 // A bounded draw: its value and its words.
@@ -85,26 +103,24 @@ fn bounded(rng: Xoshiro256PlusPlus, range: u64) -> Xoshiro256PlusPlus {
     d.rng
 }
 
+// A bounded draw within a budget.
+fn within(rng: Xoshiro256PlusPlus, range: u64, budget: u64) -> Xoshiro256PlusPlus {
+    put_sampled(random_range_within(rng, bound(range), 0, budget))
+}
+
+// A rejecting draw.
+fn rejecting(rng: Xoshiro256PlusPlus, range: u64, budget: u64) -> Xoshiro256PlusPlus {
+    put_sampled(UniformInt::new(bound(range)).sample(rng, 0, budget))
+}
+
 // One reading, written. The generator after it is returned.
-pub fn read_once(reading: Reading, rng: Xoshiro256PlusPlus) -> Xoshiro256PlusPlus {
+fn read_once(reading: Reading, rng: Xoshiro256PlusPlus) -> Xoshiro256PlusPlus {
     match reading {
-        Reading::Output => {
-            let o = rng.next_u64();
-            put(o.value);
-            o.rng
-        }
-        Reading::Word => {
-            let w = rng.next_u32();
-            put(w.value as u64);
-            w.rng
-        }
+        Reading::Output => output(rng),
+        Reading::Word => word(rng),
         Reading::Bounded(range) => bounded(rng, range),
-        Reading::Within(range, budget) => {
-            put_sampled(random_range_within(rng, bound(range), 0, budget))
-        }
-        Reading::Rejecting(range, budget) => {
-            put_sampled(UniformInt::new(bound(range)).sample(rng, 0, budget))
-        }
+        Reading::Within(range, budget) => within(rng, range, budget),
+        Reading::Rejecting(range, budget) => rejecting(rng, range, budget),
     }
 }
 
@@ -117,47 +133,75 @@ fn read_all(reading: Reading, rng: Xoshiro256PlusPlus, count: u64) {
     put_state(state);
 }
 
-// Makes the call, if it is one of those that lend a struct or hold one that borrows.
-fn make_lent(name: &[u8], n: Numbers) {
-    if same(name, b"indexed_samples") {
-        viewing::view(n);
+// A seeding by a number.
+fn seed_from_u64(n: Numbers) {
+    put_state(Xoshiro256PlusPlus::seed_from_u64(number(n, 0)));
+}
+
+// A seeding by bytes.
+fn from_seed(n: Numbers) {
+    put_state(Xoshiro256PlusPlus::from_seed(seed(n)));
+}
+
+// Outputs or words: how many is the number after the state.
+fn read_words(n: Numbers, reading: Reading) {
+    read_all(reading, generator(n), number(n, 4));
+}
+
+// Bounded draws, after the range.
+fn draw_bounded(n: Numbers) {
+    let reading = Reading::Bounded(number(n, 4));
+    read_all(reading, generator(n), number(n, 5));
+}
+
+// Draws under a budget, after the range and the budget.
+fn draw_within(n: Numbers, reading: Reading) {
+    read_all(reading, generator(n), number(n, 6));
+}
+
+// Makes the call on a line, if it is a seeding.
+fn make_seeding(name: &[u8], n: Numbers) {
+    if same(name, b"seed_from_u64") {
+        seed_from_u64(n);
     }
-    if same(name, b"lent_words") {
-        lending::draw_words(n, false);
-    }
-    if same(name, b"lent_mixed") {
-        lending::draw_words(n, true);
+    if same(name, b"from_seed") {
+        from_seed(n);
     }
 }
 
-// Makes the call on a line and writes its answer.
-pub fn make(line: &[u8]) {
-    let end = name_end(line);
-    let name = &line[..end];
-    let n = read_numbers(line, end);
-    let values = n.values;
-    make_lent(name, n);
-    if same(name, b"seed_from_u64") {
-        put_state(Xoshiro256PlusPlus::seed_from_u64(values[0]));
-    }
-    if same(name, b"from_seed") {
-        put_state(Xoshiro256PlusPlus::from_seed(seed(n)));
-    }
+// Makes the call on a line, if it reads words.
+fn make_words(name: &[u8], n: Numbers) {
     if same(name, b"next_u64") {
-        read_all(Reading::Output, generator(n), values[4]);
+        read_words(n, Reading::Output);
     }
     if same(name, b"next_u32") {
-        read_all(Reading::Word, generator(n), values[4]);
+        read_words(n, Reading::Word);
     }
+    if same(name, b"lent_words") {
+        lending::draw_words(n);
+    }
+}
+
+// Makes the call on a line, if it draws below a bound.
+fn make_draws(name: &[u8], n: Numbers) {
     if same(name, b"random_range") {
-        read_all(Reading::Bounded(values[4]), generator(n), values[5]);
+        draw_bounded(n);
     }
     if same(name, b"random_range_within") {
-        let reading = Reading::Within(values[4], values[5]);
-        read_all(reading, generator(n), values[6]);
+        draw_within(n, Reading::Within(number(n, 4), number(n, 5)));
     }
+    if same(name, b"uniform_int") {
+        draw_within(n, Reading::Rejecting(number(n, 4), number(n, 5)));
+    }
+}
+
+// Makes the call on a line, if it is a sample or a shuffle.
+fn make_sample(name: &[u8], n: Numbers) {
     if same(name, b"sample") {
         sampling::sample(n);
+    }
+    if same(name, b"indexed_samples") {
+        viewing::view(n);
     }
     if same(name, b"partial_shuffle") {
         shuffling::partially(n);
@@ -165,6 +209,10 @@ pub fn make(line: &[u8]) {
     if same(name, b"shuffle") {
         shuffling::wholly(n);
     }
+}
+
+// Makes the call on a line, if it is a fill, a choice or a table of weights.
+fn make_choice(name: &[u8], n: Numbers) {
     if same(name, b"sample_fill") {
         filling::fill(n);
     }
@@ -177,8 +225,16 @@ pub fn make(line: &[u8]) {
     if same(name, b"weighted_index") {
         weights::weigh(n);
     }
-    if same(name, b"uniform_int") {
-        let reading = Reading::Rejecting(values[4], values[5]);
-        read_all(reading, generator(n), values[6]);
-    }
+}
+
+// Makes the call on a line and writes its answer.
+pub fn make(line: &[u8]) {
+    let end = name_end(line);
+    let name = &line[..end];
+    let n = read_numbers(line, end);
+    make_seeding(name, n);
+    make_words(name, n);
+    make_draws(name, n);
+    make_sample(name, n);
+    make_choice(name, n);
 }

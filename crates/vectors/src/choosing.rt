@@ -2,12 +2,14 @@
 // a rule: see `lower_at` and `upper_at`.
 ghost use Prim.Native.Nat.{_≤_};
 use super::answers::put;
+use super::answers::put_refusal;
 use super::answers::put_state;
 use super::calls::generator;
 use super::slices::at_most;
 use super::slices::count_up;
 use super::slices::entries;
 use super::text::Numbers;
+use super::text::number;
 use choose::Choice;
 use choose::Chosen;
 use choose::choose;
@@ -89,9 +91,8 @@ fn put_hints(pattern: u64, n: u64, lower: &mut [u32], upper: &mut [u32])
     }
 }
 
-// The number, 1 and the item or 0 and 0, the words and the state.
-fn put_chosen(c: Chosen) {
-    let answer = c.answer;
+// The number, and 1 and the item or 0 and 0.
+fn put_choice(answer: Choice) {
     match answer {
         Choice::Item(x) => {
             put(0);
@@ -104,22 +105,37 @@ fn put_chosen(c: Chosen) {
             put(0);
         }
         Choice::Refused(why) => {
-            put(why.number() as u64);
+            put_refusal(why);
             put(0);
             put(0);
         }
     }
+}
+
+// The choice, the words and the state.
+fn put_chosen(c: Chosen) {
+    let answer = c.answer;
+    put_choice(answer);
     put(c.words);
     put_state(c.rng);
 }
 
+// `choose` with these lists.
+fn choose_any(n: Numbers, items: &[u32], lower: &[u32], upper: &[u32]) {
+    put_chosen(choose(generator(n), items, lower, upper, number(n, 4)));
+}
+
+// `choose_stable` with these lists.
+fn choose_stably(n: Numbers, items: &[u32], lower: &[u32], upper: &[u32]) {
+    put_chosen(choose_stable(generator(n), items, lower, upper, number(n, 4)));
+}
+
 // The choice with these lists.
 fn choose_with(n: Numbers, is_stable: bool, items: &[u32], lower: &[u32], upper: &[u32]) {
-    let values = n.values;
     if is_stable {
-        put_chosen(choose_stable(generator(n), items, lower, upper, values[4]));
+        choose_stably(n, items, lower, upper);
     } else {
-        put_chosen(choose(generator(n), items, lower, upper, values[4]));
+        choose_any(n, items, lower, upper);
     }
 }
 
@@ -131,23 +147,28 @@ fn choose_from(
     lower: &mut [u32],
     upper: &mut [u32],
 ) {
-    let values = n.values;
     count_up(items);
-    put_hints(values[6], item_count(values[5]), lower, upper);
+    put_hints(number(n, 6), item_count(number(n, 5)), lower, upper);
     choose_with(n, is_stable, items, lower, upper);
 }
 
-// A choice: `choose`, or `choose_stable`. The lists of hints have an entry more than there are items, but in 6, where they have as many.
+// How many hints there are: one more than items, but in 6 as many.
+fn hint_count(pattern: u64, count: u64) -> u64
+    requires { ⌜ count ≤ 50000 ⌝ }
+{
+    if pattern == 6 {
+        return count;
+    }
+    count + 1
+}
+
+// A choice: `choose`, or `choose_stable`.
 pub fn make_choice(n: Numbers, is_stable: bool) {
-    let values = n.values;
     let mut items = entries();
     let mut lower = entries();
     let mut upper = entries();
-    let count = item_count(values[5]);
-    let mut hints = count + 1;
-    if values[6] == 6 {
-        hints = count;
-    }
+    let count = item_count(number(n, 5));
+    let hints = hint_count(number(n, 6), count);
     let a = at_most(count, &items);
     let b = at_most(hints, &lower);
     let c = at_most(hints, &upper);

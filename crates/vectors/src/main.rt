@@ -16,6 +16,7 @@ mod shuffling;
 mod slices;
 mod text;
 mod viewing;
+mod views;
 mod weights;
 
 // Makes the call on each line.

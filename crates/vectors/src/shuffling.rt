@@ -1,13 +1,15 @@
 // Shuffles of the numbers 0, 1, .., and the parts that a partial shuffle leaves.
 use super::answers::put;
+use super::answers::put_outcome;
+use super::answers::put_slice;
 use super::answers::put_state;
 use super::calls::generator;
 use super::hash::hash;
 use super::slices::at_most;
 use super::slices::count_up;
 use super::slices::entries;
-use super::slices::put_front;
 use super::text::Numbers;
+use super::text::number;
 use slice::Shuffled;
 use slice::head;
 use slice::partial_shuffle;
@@ -17,7 +19,7 @@ use slice::tail;
 // The number, n and the words.
 fn put_shuffled(s: Shuffled) {
     let outcome = s.outcome;
-    put(outcome.number() as u64);
+    put_outcome(outcome);
     put(s.n);
     put(s.words);
 }
@@ -34,20 +36,17 @@ fn put_parts(items: &mut [u32], at: u64) {
 
 // A partial shuffle: the number, n, the words, the front, the hash of the whole, the parts at a place, and the state.
 fn partial_shuffle_of(n: Numbers, items: &mut [u32]) {
-    let values = n.values;
     count_up(items);
-    let s = partial_shuffle(generator(n), items, values[5]);
+    let s = partial_shuffle(generator(n), items, number(n, 5));
     put_shuffled(s);
-    put_front(items);
-    put(hash(items));
-    put_parts(items, values[6]);
+    put_slice(items);
+    put_parts(items, number(n, 6));
     put_state(s.rng);
 }
 
 pub fn partially(n: Numbers) {
-    let values = n.values;
     let mut items = entries();
-    let len = at_most(values[4], &items);
+    let len = at_most(number(n, 4), &items);
     partial_shuffle_of(n, &mut items[..len]);
 }
 
@@ -56,14 +55,12 @@ fn shuffle_of(n: Numbers, items: &mut [u32]) {
     count_up(items);
     let s = shuffle(generator(n), items);
     put_shuffled(s);
-    put_front(items);
-    put(hash(items));
+    put_slice(items);
     put_state(s.rng);
 }
 
 pub fn wholly(n: Numbers) {
-    let values = n.values;
     let mut items = entries();
-    let len = at_most(values[4], &items);
+    let len = at_most(number(n, 4), &items);
     shuffle_of(n, &mut items[..len]);
 }

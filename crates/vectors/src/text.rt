@@ -47,13 +47,13 @@ fn digit(b: u8) -> u64
 }
 
 // A number, and the place after its digits.
-struct Number {
+struct Parsed {
     value: u64,
     next: usize,
 }
 
 // The number whose digits begin at `from`. A number above 2^64 - 1 ends before the digit that would pass it.
-fn read_number(text: &[u8], from: usize) -> Number
+fn read_number(text: &[u8], from: usize) -> Parsed
     requires { ⌜ from ≤ length (now text) ⌝ }
     ensures { λ r. ⌜ (from ≤ r .next) × (r .next ≤ length (now (text .entry))) ⌝ }
 {
@@ -70,7 +70,7 @@ fn read_number(text: &[u8], from: usize) -> Number
         value = value * 10 + d;
         at += 1;
     }
-    Number {
+    Parsed {
         value: value,
         next: at,
     }
@@ -78,7 +78,16 @@ fn read_number(text: &[u8], from: usize) -> Number
 
 // The numbers of a call. Those that are not given are 0.
 pub struct Numbers {
-    pub values: [u64; 40],
+    values: [u64; 40],
+}
+
+// The number at a place of a line, and 0 behind the last.
+pub fn number(n: Numbers, at: usize) -> u64 {
+    let values = n.values;
+    if at >= 40 {
+        return 0;
+    }
+    values[at]
 }
 
 // The numbers that follow the name of a call, each after one byte: the first forty.

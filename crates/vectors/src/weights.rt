@@ -6,12 +6,14 @@ ghost use Prim.Native.Nat.{_≤_};
 ghost use lib.ListN.{length};
 ghost use Rattle.io.specs.Counts.{Counts};
 use super::answers::put;
+use super::answers::put_refusal;
 use super::answers::put_state;
 use super::calls::generator;
 use super::hash::hash;
 use super::slices::at_most;
 use super::slices::entries;
 use super::text::Numbers;
+use super::text::number;
 use pick::Choice;
 use pick::Picked;
 use pick::sample;
@@ -24,15 +26,6 @@ use weighted_index::answer::WeightedIndex;
 use weighted_index::build::new;
 use weighted_index::table::weight;
 
-// The number at a place of a line, and 0 behind the last.
-fn number_at(n: Numbers, at: usize) -> u64 {
-    let values = n.values;
-    if at >= 40 {
-        return 0;
-    }
-    values[at]
-}
-
 // The numbers from `from` on as places.
 fn places_from(n: Numbers, from: usize) -> [u64; 40]
     requires { ⌜ from ≤ 100 ⌝ }
@@ -40,7 +33,7 @@ fn places_from(n: Numbers, from: usize) -> [u64; 40]
 {
     let mut row = [0u64; 40];
     for i in 0..40usize {
-        row[i] = number_at(n, from + i);
+        row[i] = number(n, from + i);
     }
     row
 }
@@ -52,7 +45,7 @@ fn weights_from(n: Numbers, from: usize) -> [u32; 40]
 {
     let mut row = [0u32; 40];
     for i in 0..40usize {
-        row[i] = (number_at(n, from + i) % 0x1_0000_0000) as u32;
+        row[i] = (number(n, from + i) % 0x1_0000_0000) as u32;
     }
     row
 }
@@ -69,17 +62,15 @@ fn at_most_places(n: u64, places: &[u64]) -> usize
 }
 
 // The record after a call: that of the table made, or the one before where the call is refused.
-fn record_after(outcome: Outcome, before: WeightedIndex) -> WeightedIndex {
-    let answer = outcome.answer;
+fn record_after(answer: Made, before: WeightedIndex) -> WeightedIndex {
     match answer {
         Made::Table(table) => table,
-        Made::Refused(why) => before,
+        Made::Refused(_) => before,
     }
 }
 
-// A new table or a change: the number, the record's count and total, the words and the hash of the sums.
-fn put_made(outcome: Outcome, cumulative_weights: &[u32]) {
-    let answer = outcome.answer;
+// The number, and the record's count and total or 0 and 0.
+fn put_record(answer: Made) {
     match answer {
         Made::Table(table) => {
             put(0);
@@ -87,18 +78,23 @@ fn put_made(outcome: Outcome, cumulative_weights: &[u32]) {
             put(table.total_weight as u64);
         }
         Made::Refused(why) => {
-            put(why.number() as u64);
+            put_refusal(why);
             put(0);
             put(0);
         }
     }
+}
+
+// A new table or a change: the number, the record, the words and the hash of the sums.
+fn put_made(outcome: Outcome, cumulative_weights: &[u32]) {
+    let answer = outcome.answer;
+    put_record(answer);
     put(outcome.words);
     put(hash(cumulative_weights));
 }
 
-// A lookup: the number, 1 and the weight or 0 and 0, and the words.
-fn put_looked(lookup: Lookup) {
-    let answer = lookup.answer;
+// The number, and 1 and the weight or 0 and 0.
+fn put_weight(answer: Looked) {
     match answer {
         Looked::Weight(w) => {
             put(0);
@@ -111,27 +107,38 @@ fn put_looked(lookup: Lookup) {
             put(0);
         }
         Looked::Refused(why) => {
-            put(why.number() as u64);
+            put_refusal(why);
             put(0);
             put(0);
         }
     }
+}
+
+// A lookup, and its words.
+fn put_looked(lookup: Lookup) {
+    let answer = lookup.answer;
+    put_weight(answer);
     put(lookup.words);
 }
 
-// A pick: the number, the index, the words and the state.
-fn put_picked(picked: Picked) {
-    let answer = picked.answer;
+// The number, and the index or 0.
+fn put_index(answer: Choice) {
     match answer {
         Choice::Item(i) => {
             put(0);
             put(i as u64);
         }
         Choice::Refused(why) => {
-            put(why.number() as u64);
+            put_refusal(why);
             put(0);
         }
     }
+}
+
+// A pick, the words and the state.
+fn put_picked(picked: Picked) {
+    let answer = picked.answer;
+    put_index(answer);
     put(picked.words);
     put_state(picked.rng);
 }
@@ -144,7 +151,8 @@ fn make_table(weights: &[u32], cumulative_weights: &mut [u32]) -> WeightedIndex 
     };
     let made = new(weights, cumulative_weights);
     put_made(made, cumulative_weights);
-    record_after(made, nothing)
+    let answer = made.answer;
+    record_after(answer, nothing)
 }
 
 // Changes the table, writes the answer, and gives the record afterwards.
@@ -156,38 +164,48 @@ fn change_table(
 ) -> WeightedIndex {
     let made = update_weights(table, cumulative_weights, places, weights);
     put_made(made, cumulative_weights);
-    record_after(made, table)
+    let answer = made.answer;
+    record_after(answer, table)
 }
 
 // Looks a weight up and picks an item.
 fn use_table(n: Numbers, table: WeightedIndex, cumulative_weights: &[u32]) {
-    let values = n.values;
-    put_looked(weight(table, cumulative_weights, values[6]));
-    put_picked(sample(generator(n), table, cumulative_weights, values[4]));
+    put_looked(weight(table, cumulative_weights, number(n, 6)));
+    put_picked(sample(generator(n), table, cumulative_weights, number(n, 4)));
+}
+
+// The change, whose lists stand from `from` on.
+fn change_from(
+    n: Numbers,
+    from: usize,
+    table: WeightedIndex,
+    cumulative_weights: &mut [u32],
+) -> WeightedIndex
+    requires { ⌜ from ≤ 50 ⌝ }
+{
+    let places = places_from(n, from);
+    let changed = at_most_places(number(n, 8), &places);
+    let changes = weights_from(n, from + changed);
+    let given = at_most(number(n, 9), &changes);
+    change_table(
+        table,
+        cumulative_weights,
+        &places[..changed],
+        &changes[..given],
+    )
 }
 
 // The four calls, with the slice for the sums.
 fn weigh_with(n: Numbers, cumulative_weights: &mut [u32]) {
-    let values = n.values;
     let weights = weights_from(n, 10);
-    let count = at_most(values[7], &weights);
-    let places = places_from(n, 10 + count);
-    let changed = at_most_places(values[8], &places);
-    let changes = weights_from(n, 10 + count + changed);
-    let given = at_most(values[9], &changes);
+    let count = at_most(number(n, 7), &weights);
     let new_table = make_table(&weights[..count], cumulative_weights);
-    let table = change_table(
-        new_table,
-        cumulative_weights,
-        &places[..changed],
-        &changes[..given],
-    );
+    let table = change_from(n, 10 + count, new_table, cumulative_weights);
     use_table(n, table, cumulative_weights);
 }
 
 pub fn weigh(n: Numbers) {
-    let values = n.values;
     let mut sums = entries();
-    let room = at_most(values[5], &sums);
+    let room = at_most(number(n, 5), &sums);
     weigh_with(n, &mut sums[..room]);
 }

@@ -7,19 +7,16 @@ use Rattle.vectors.proofs.calls.seed.Statement.{statement}
 use Rattle.vectors.proofs.calls.seed.Tie as tie
 
 abbrev Inv-loop : tie.InvT-loop
-Inv-loop values bytes₀ i₀ bytes i = (i ≤ 32) × (length bytes ≡ 32) × (length values ≡ 40)
+Inv-loop n bytes₀ i₀ bytes i = (i ≤ 32) × (length bytes ≡ 32)
 
 abbrev μ-loop : tie.MeasureT-loop
-μ-loop values bytes₀ i₀ bytes i = 32 - i
+μ-loop n bytes₀ i₀ bytes i = 32 - i
 
 loop-holds : tie.Need-loop-holds Inv-loop μ-loop
 loop-holds c = search needs
 
-mul-bytes : tie.Need-mul-bytes Inv-loop μ-loop
-mul-bytes c = search needs
-
-array-read-bytes : tie.Need-array-read-bytes Inv-loop μ-loop
-array-read-bytes c = search needs
+number-requires : tie.Need-number-requires Inv-loop μ-loop
+number-requires c κs = search needs
 
 cast-bytes : tie.Need-cast-bytes Inv-loop μ-loop
 cast-bytes c = search needs
@@ -46,8 +43,7 @@ seed-spec =
     Inv-loop
     μ-loop
     loop-holds
-    mul-bytes
-    array-read-bytes
+    number-requires
     cast-bytes
     array-write-bytes
     add-i

@@ -1,0 +1,188 @@
+-- A view's draw, by its ends: it is declined for a cause other than its amount, or is a sample by one of the three methods.
+-- Assumes nothing.
+use mathlib.Core.Path.{_≡_, refl, sym, _∙_, subst}
+use mathlib.Core.Bool.{Bool, true, false, false≢true}
+use mathlib.Core.List.{List, [], _∷_, _++_}
+use Prim.Native.Nat.{ℕ, zero, suc, _-_, _%_, _^_, _≤_, _<_, min}
+use native.Mathlib.Nat.{min-le-right}
+use native.Mathlib.Omega.{arith}
+use lib.Dec.{eqb, ltb}
+use lib.ListN.{length, getD, take, drop}
+use lib.Pow.{pow-pos}
+use lib.Seq.{take-at}
+use borrow.Author.Tests.{ltb-true, ltb-false, eq-eqb}
+use Rattle.refusal.specs.Answer.{answerOf}
+use Rattle.refusal.specs.Number.{number}
+use Rattle.refusal.specs.declared.Outcome.the-variants.{Done}
+use Rattle.refusal.specs.declared.Refusal.{Refusal}
+use Rattle.refusal.specs.declared.Refusal.the-variants.{AmountExceedsLength}
+use Rattle.refusal.proofs.Outcomes.{refused-number}
+use Rattle.xoshiro256plusplus.specs.Generator.{word, advance, zeroState}
+use Rattle.xoshiro256plusplus.specs.declared.Xoshiro256PlusPlus.{Xoshiro256PlusPlus}
+use Rattle.xoshiro256plusplus.proofs.Laws.{word-lt}
+use Rattle.counting.specs.Bounds.{rising}
+use Rattle.counting.specs.Lists.{Below}
+use Rattle.uniform_int.specs.Draws.{draws}
+use Rattle.uniform_int.specs.Rejecting.{accepts, scaled}
+use Rattle.uniform_int.proofs.Laws.{Positive, draws-within}
+use Rattle.uniform_int.proofs.Scaling.{upper-lt}
+use Rattle.crossover.specs.Method.{methodOf}
+use Rattle.crossover.specs.declared.Method.{Method}
+use Rattle.crossover.specs.declared.Method.the-variants.{Floyd, InPlace, Rejection}
+use Rattle.index.specs.Floyd.{floydOf, floydBounds}
+use Rattle.index.specs.InPlace.{arranged, falling}
+use Rattle.index.specs.Rejection.{Found, foundOf, acceptedOf}
+use Rattle.index.specs.Sample.{Sampling, refuses, byFloyd, byInPlace, byRejection, sampleOf}
+use Rattle.index.specs.Shares.{SampleOf}
+use Rattle.index.proofs.Cases.{Fit, slice-short, floyd, scratch-short, in-place, rejection, positive}
+use Rattle.index.proofs.InPlaceTurns.{falling-positive}
+use Rattle.index.proofs.Shares.{index-shares}
+use Rattle.indexed_samples.specs.View.{drawnOf, viewSampleOf, ViewDraws}
+use Rattle.indexed_samples.proofs.View.{some, zero-state, too-long, sampled, all-drawn}
+
+-- ---- the ends of a draw
+
+-- a property of every end that a sample of an amount within the length can have
+record Ends (P : Sampling → Type 0) (n amount budget : ℕ) (g : Xoshiro256PlusPlus) (indices scratch : List ℕ) : Type 0 where
+  refused : (r : Refusal) → eqb (number r) (number AmountExceedsLength) ≡ false → P (refuses r g indices scratch)
+  floyd : P (byFloyd n amount g indices scratch)
+  in-place : P (byInPlace n amount g indices scratch)
+  rejection : 0 < n → P (byRejection (foundOf n amount budget g) indices scratch)
+
+module _ (P : Sampling → Type 0) (n amount budget : ℕ) (g : Xoshiro256PlusPlus) (indices scratch : List ℕ) where
+  of-sample : Ends P n amount budget g indices scratch → zeroState g ≡ false → n ≤ 2 ^ 32 - 2 → amount ≤ n → P (sampleOf n amount budget g indices scratch)
+  of-sample p e h k = room (ltb (length indices) amount) refl
+    where
+      ends : (s : Sampling) → sampleOf n amount budget g indices scratch ≡ s → P s → P (sampleOf n amount budget g indices scratch)
+      ends s same q = subst P (sym same) q
+
+      scratched : (f : Fit n amount g indices) → methodOf n amount ≡ InPlace → (b : Bool) → ltb (length scratch) n ≡ b → P (sampleOf n amount budget g indices scratch)
+      scratched f m true b = ends _ (scratch-short n amount budget g indices scratch f m (ltb-true _ _ b)) (p .refused _ refl)
+      scratched f m false b = ends _ (in-place n amount budget g indices scratch f m (ltb-false _ _ b)) (p .in-place)
+
+      method : (f : Fit n amount g indices) (m : Method) → methodOf n amount ≡ m → P (sampleOf n amount budget g indices scratch)
+      method f Floyd m = ends _ (floyd n amount budget g indices scratch f m) (p .floyd)
+      method f InPlace m = scratched f m (ltb (length scratch) n) refl
+      method f Rejection m = ends _ (rejection n amount budget g indices scratch f m) (p .rejection (positive n amount m k))
+
+      room : (b : Bool) → ltb (length indices) amount ≡ b → P (sampleOf n amount budget g indices scratch)
+      room true b = ends _ (slice-short n amount budget g indices scratch e (omega arith) k (ltb-true _ _ b)) (p .refused _ refl)
+      room false b = method (record { alive = e; short = omega arith; enough = k; room = ltb-false _ _ b }) (methodOf n amount) refl
+
+module _ (P : Sampling → Type 0) (n amount budget : ℕ) (g : Xoshiro256PlusPlus) (indices scratch : List ℕ) where
+  of-view : Ends P n (min amount n) budget g indices scratch → P (viewSampleOf n amount budget g indices scratch)
+  of-view p = alive (zeroState g) refl
+    where
+      ends : (s : Sampling) → viewSampleOf n amount budget g indices scratch ≡ s → P s → P (viewSampleOf n amount budget g indices scratch)
+      ends s same q = subst P (sym same) q
+
+      long : zeroState g ≡ false → (b : Bool) → ltb (2 ^ 32 - 2) n ≡ b → P (viewSampleOf n amount budget g indices scratch)
+      long e true b = ends _ (too-long n amount budget g indices scratch e (ltb-true _ _ b)) (p .refused _ refl)
+      long e false b =
+          ends _ (sampled n amount budget g indices scratch e (ltb-false _ _ b))
+          (of-sample P n (min amount n) budget g indices scratch p e (ltb-false _ _ b) (min-le-right amount n))
+
+      alive : (b : Bool) → zeroState g ≡ b → P (viewSampleOf n amount budget g indices scratch)
+      alive true e = ends _ (zero-state n amount budget g indices scratch e) (p .refused _ refl)
+      alive false e = long e (ltb (2 ^ 32 - 2) n) refl
+
+-- ---- never for the amount
+
+other-number : (n amount budget : ℕ) (g : Xoshiro256PlusPlus) (indices scratch : List ℕ)
+    → eqb (viewSampleOf n amount budget g indices scratch .answer .number) (number AmountExceedsLength) ≡ false
+unfolding refuses byFloyd byInPlace byRejection
+other-number n amount budget g indices scratch =
+    of-view (λ s. eqb (s .answer .number) (number AmountExceedsLength) ≡ false) n amount budget g indices scratch
+    (record { refused = λ r e. e; floyd = refl; in-place = refl; rejection = λ pos. go (foundOf n (min amount n) budget g) })
+  where
+    go : (f : Found) → eqb (byRejection f indices scratch .answer .number) (number AmountExceedsLength) ≡ false
+    go f = found (f .all) refl
+      where
+        found : (b : Bool) → f .all ≡ b → eqb (byRejection f indices scratch .answer .number) (number AmountExceedsLength) ≡ false
+        found true e = rw e refl
+        found false e = rw e refl
+
+-- ---- a sample
+
+abbrev Sample : ℕ → ℕ → Sampling → Type 0
+Sample n amount s = s .answer .number ≡ 0 → SampleOf n amount (drawnOf (s .answer) (s .indices))
+
+-- those drawn are the ones at the front
+front : (l rest : List ℕ) (count : ℕ) → length l ≡ count → drawnOf (answerOf Done count) (l ++ rest) ≡ l
+front l rest count e = all-drawn Done count (l ++ rest) refl ∙ take-at l rest count e
+
+rising-positive : (j m : ℕ) → Positive (rising j m)
+unfolding rising
+rising-positive j zero = tt
+rising-positive j (suc m) = (omega arith, rising-positive (suc j) m)
+
+accepted-below : (r n : ℕ) (g : Xoshiro256PlusPlus) → 0 < r → Below r (acceptedOf r n g)
+unfolding acceptedOf scaled
+accepted-below r zero g h = tt
+accepted-below r (suc n) g h = go (accepts (2 ^ 32) r (2 ^ 32 % r) (word g)) (accepted-below r n (advance g) h)
+  where
+    go : (b : Bool) → Below r (acceptedOf r n (advance g)) → Below r (elim b [ true ↦ scaled (2 ^ 32) r (word g) ∷ acceptedOf r n (advance g) | false ↦ acceptedOf r n (advance g) ])
+    go true ih = (upper-lt (2 ^ 32) r (word g) (pow-pos 32) h (word-lt g), ih)
+    go false ih = ih
+
+module _ (f : Found) (indices scratch : List ℕ) where
+  all-found : f .all ≡ true → drawnOf (byRejection f indices scratch .answer) (byRejection f indices scratch .indices) ≡ f .indices
+  unfolding byRejection
+  all-found a = rw a (front (f .indices) (drop (length (f .indices)) indices) (length (f .indices)) refl)
+
+  not-all : f .all ≡ false → byRejection f indices scratch .answer .number ≡ 0 → ⊥
+  unfolding byRejection
+  not-all a e = omega (arith, rw a at e)
+
+module _ (n amount budget : ℕ) (g : Xoshiro256PlusPlus) (indices scratch : List ℕ) (k : amount ≤ n) where
+  by-floyd : Sample n amount (byFloyd n amount g indices scratch)
+  unfolding byFloyd floydBounds
+  by-floyd e =
+      let p = index-shares .floyd-sample n amount (draws (floydBounds n amount) g .values) k (draws-within (floydBounds n amount) g (rising-positive (n - amount) amount)) in
+      rw (front (floydOf n amount (draws (floydBounds n amount) g .values)) (drop amount indices) amount (p .size)) p
+
+  by-in-place : Sample n amount (byInPlace n amount g indices scratch)
+  unfolding byInPlace
+  by-in-place e =
+      let p = index-shares .in-place-sample n amount (draws (falling n amount) g .values) k (draws-within (falling n amount) g (falling-positive n amount k)) in
+      rw (front (take amount (arranged n (draws (falling n amount) g .values))) (drop amount indices) amount (p .size)) p
+
+  by-rejection : 0 < n → Sample n amount (byRejection (foundOf n amount budget g) indices scratch)
+  by-rejection pos = go (foundOf n amount budget g .all) refl
+    where
+      f : Found
+      f = foundOf n amount budget g
+
+      go : (b : Bool) → f .all ≡ b → Sample n amount (byRejection f indices scratch)
+      go true a e =
+          rw (all-found f indices scratch a)
+          (index-shares .rejection-sample n amount (acceptedOf n budget g) (f .indices) (accepted-below n budget g pos) (index-shares .words-give n amount budget g a))
+      go false a e = absurd (not-all f indices scratch a e)
+
+each-sample : (n amount budget : ℕ) (g : Xoshiro256PlusPlus) (indices scratch : List ℕ) → Sample n (min amount n) (viewSampleOf n amount budget g indices scratch)
+unfolding refuses
+each-sample n amount budget g indices scratch =
+    of-view (Sample n (min amount n)) n amount budget g indices scratch
+    (record {
+      refused = λ r other e. absurd (false≢true (sym (refused-number r) ∙ eq-eqb (number r) 0 e));
+      floyd = by-floyd n (min amount n) budget g indices scratch (min-le-right amount n);
+      in-place = by-in-place n (min amount n) budget g indices scratch (min-le-right amount n);
+      rejection = by-rejection n (min amount n) budget g indices scratch (min-le-right amount n);
+    })
+
+-- ---- an item at each place
+
+below-at : (n : ℕ) (l : List ℕ) (k : ℕ) → Below n l → k < length l → getD l k 0 < n
+below-at n [] k b h = absurd (omega arith)
+below-at n (x ∷ l) zero b h = b .0
+below-at n (x ∷ l) (suc k) b h = below-at n l k (b .1) (omega arith)
+
+pub view-draws : ViewDraws
+view-draws =
+    record {
+      never-overdrawn = other-number;
+      draws = each-sample;
+      shows-each = λ items indices amount k p h.
+          let here : k < length indices = omega (arith, p .size) in
+          some items indices k here (below-at (length items) indices k (p .below) here);
+    }
