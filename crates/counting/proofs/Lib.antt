@@ -7,4 +7,3 @@ pub mod Same
 pub mod Distinct
 pub mod Many
 pub mod Places
-pub mod Fronts

@@ -17,9 +17,9 @@ use Rattle.xoshiro256plusplus.specs.Generator.{zeroState}
 use Rattle.xoshiro256plusplus.specs.declared.Xoshiro256PlusPlus.{Xoshiro256PlusPlus}
 use Rattle.index.specs.Sample.{Sampling, ended, refuses, sampleOf}
 use Rattle.index.specs.declared.IndexSample.{IndexSample}
-use Rattle.slice.specs.Parts.{Lent}
+use Rattle.parts.specs.Parts.{Lent}
 use Rattle.indexed_samples.specs.View.{showAt, drawnOf, viewSampleOf, Viewed}
-use Rattle.slice.proofs.Parts.{at-start}
+use Rattle.parts.proofs.Parts.{at-start}
 
 -- ---- what is shown at a place
 

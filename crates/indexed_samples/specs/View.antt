@@ -13,7 +13,7 @@ use Rattle.xoshiro256plusplus.specs.Generator.{zeroState}
 use Rattle.xoshiro256plusplus.specs.declared.Xoshiro256PlusPlus.{Xoshiro256PlusPlus}
 use Rattle.index.specs.Sample.{Sampling, ended, refuses, sampleOf}
 use Rattle.index.specs.Shares.{SampleOf}
-use Rattle.slice.specs.Parts.{Lent}
+use Rattle.parts.specs.Parts.{Lent}
 use Rattle.indexed_samples.specs.declared.Item.{Item}
 use Rattle.indexed_samples.specs.declared.Item.the-variants.{Some, None}
 use Rattle.indexed_samples.specs.declared.Shown.{Shown}

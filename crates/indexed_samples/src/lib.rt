@@ -4,13 +4,13 @@ ghost use Prim.Native.Nat.{_-_};
 ghost use lib.ListN.{length};
 ghost use Rattle.refusal.specs.Answer.{answerOf};
 ghost use Rattle.index.specs.Sample.{ended};
-ghost use Rattle.slice.specs.Parts.{Lent};
+ghost use Rattle.parts.specs.Parts.{Lent};
 ghost use Rattle.indexed_samples.specs.View.{answerOfItem, shows, showAt, shownBy, moved, remains, drawnOf, viewSampleOf, Viewed};
 use index::IndexSample;
 use index::refused;
+use parts::clipped;
 use refusal::Outcome;
 use refusal::Refusal;
-use slice::clipped;
 use xoshiro256plusplus::Xoshiro256PlusPlus;
 
 // What a view shows at a place. The definition `answerOfItem` gives the number and the values of each case.

@@ -1,28 +1,19 @@
 // The reservoir: the first items fill the buffer, and each item past them replaces a slot that is drawn, or none.
 ghost use mathlib.Core.Path.{_≡_};
-ghost use Prim.Native.Nat.{_-_, _^_, _≤_, min};
+ghost use Prim.Native.Nat.{_-_, _^_, _≤_};
 ghost use lib.ListN.{length};
 ghost use Rattle.iterator.specs.Fill.{FrontFilled, Replaced};
-use counting::copy_front;
+use parts::clipped;
+use parts::copy_front;
 use uniform_int::Reading;
 use uniform_int::random_range;
 use xoshiro256plusplus::Xoshiro256PlusPlus;
-
-// The smaller of the two.
-fn smaller(a: usize, b: usize) -> usize
-    ensures { λ r. ⌜ r ≡ min a b ⌝ }
-{
-    if a < b {
-        return a;
-    }
-    b
-}
 
 // Copies the first items to the front of the buffer until one of the two ends, and answers how many.
 pub(crate) fn fill_front(items: &[u32], buf: &mut [u32]) -> usize
     ensures { λ r. ⌜ FrontFilled (now (items .entry)) (now (buf .entry)) (now (buf .exit)) r ⌝ }
 {
-    let count = smaller(items.len(), buf.len());
+    let count = clipped(items.len() as u64, buf.len());
     copy_front(items, count, buf);
     count
 }

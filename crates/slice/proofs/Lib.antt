@@ -4,4 +4,3 @@ pub mod Rearranged
 pub mod Shares
 pub mod Turns
 pub mod Cases
-pub mod Parts

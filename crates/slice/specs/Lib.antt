@@ -1,4 +1,3 @@
 pub mod Shuffle
 pub mod Shuffled
 pub mod Shares
-pub mod Parts

@@ -2,10 +2,11 @@
 ghost use mathlib.Core.Path.{_≡_};
 ghost use Prim.Native.Nat.{_-_, _^_, _≤_, min};
 ghost use lib.ListN.{length, take, drop};
-ghost use Rattle.slice.specs.Parts.{Lent};
+ghost use Rattle.parts.specs.Parts.{Lent};
 ghost use Rattle.slice.specs.Shuffled.{ended, shuffledFrom, partialShuffleOf, wholeShuffleOf};
-use counting::swap;
 use increasing_uniform::IncreasingUniform;
+use parts::clipped;
+use parts::swap;
 use refusal::Outcome;
 use refusal::Refusal;
 use xoshiro256plusplus::Xoshiro256PlusPlus;
@@ -91,17 +92,6 @@ pub fn shuffle(rng: Xoshiro256PlusPlus, items: &mut [u32]) -> Shuffled
 {
     let length = items.len() as u64;
     partial_shuffle(rng, items, length)
-}
-
-// The place n, or the length where n is above it.
-pub fn clipped(n: u64, length: usize) -> usize
-    ensures { λ r. ⌜ r ≡ min n length ⌝ }
-{
-    let most = length as u64;
-    if n < most {
-        return n as usize;
-    }
-    length
 }
 
 // Lends the part of the slice from place n on: the shuffled tail, where n is what a shuffle answered. Above the length it is empty. Never

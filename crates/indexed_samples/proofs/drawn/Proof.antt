@@ -3,7 +3,7 @@ use mathlib.Core.Path.{sym, _∙_}
 use native.Mathlib.Omega.{arith}
 use lib.ListN.{length-take}
 use denote.Ref.{now}
-use Rattle.slice.proofs.Parts.{take-clipped, at-start}
+use Rattle.parts.proofs.Parts.{take-clipped, at-start}
 use Rattle.indexed_samples.proofs.View.{all-drawn, none-drawn}
 use borrow.Author.Needs.{needs}
 use Rattle.indexed_samples.proofs.drawn.Statement.{statement}

@@ -51,7 +51,7 @@ use Rattle.index.specs.Sample.{Sampling, ended}
 use Rattle.index.specs.declared.IndexSample.{IndexSample}
 use Rattle.index.proofs.IndexSample as E
 use Rattle.index.proofs.IndexSample.Laws as E′
-use Rattle.slice.specs.Parts.{Lent}
+use Rattle.parts.specs.Parts.{Lent}
 use Rattle.indexed_samples.specs.View.{drawnOf, viewSampleOf, Viewed}
 use Rattle.indexed_samples.specs.declared.IndexedSamples.{IndexedSamples}
 use Rattle.indexed_samples.specs.declared.ViewSample.{ViewSample}

@@ -1,6 +1,6 @@
 -- `whole` meets its contract: the slice is read where it stands. Assumes nothing.
 use mathlib.Core.Path.{refl}
-use Rattle.slice.proofs.Parts.{at-start}
+use Rattle.parts.proofs.Parts.{at-start}
 use Rattle.indexed_samples.proofs.whole.Statement.{statement}
 use Rattle.indexed_samples.proofs.whole.Tie as tie
 

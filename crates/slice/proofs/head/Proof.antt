@@ -2,7 +2,7 @@
 use native.Mathlib.Omega.{arith}
 use lib.ListN.{length-take}
 use denote.Ref.{now}
-use Rattle.slice.proofs.Parts.{take-clipped, at-start}
+use Rattle.parts.proofs.Parts.{take-clipped, at-start}
 use borrow.Author.Needs.{needs}
 use Rattle.slice.proofs.head.Statement.{statement}
 use Rattle.slice.proofs.head.Tie as tie

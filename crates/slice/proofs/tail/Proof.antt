@@ -1,7 +1,7 @@
 -- `tail` meets its contract: a part from a clipped place on is the part from that place on. Assumes nothing.
 use mathlib.Core.Path.{_∙_}
 use denote.Ref.{now}
-use Rattle.slice.proofs.Parts.{drop-clipped, take-rest}
+use Rattle.parts.proofs.Parts.{drop-clipped, take-rest}
 use borrow.Author.Needs.{needs}
 use Rattle.slice.proofs.tail.Statement.{statement}
 use Rattle.slice.proofs.tail.Tie as tie

@@ -6,8 +6,8 @@ use Rattle.iterator.proofs.ReservoirTurns.{all-copied}
 use Rattle.iterator.proofs.reservoir.fill_front.Statement.{statement}
 use Rattle.iterator.proofs.reservoir.fill_front.Tie as tie
 
-smaller-requires : tie.Need-smaller-requires
-smaller-requires c κs = search needs
+clipped-requires : tie.Need-clipped-requires
+clipped-requires c κs = search needs
 
 copy-front-requires : tie.Need-copy-front-requires
 copy-front-requires c κs = search needs
@@ -18,11 +18,11 @@ same-length c = search needs
 returns : tie.Need-returns
 returns c =
     let a = c .before .before .before .before .before .before .before .args in
-    let count = c .before .before .before .before .smaller in
+    let count = c .before .before .before .before .clipped in
     record {
       count = count .ensures;
       buf = c .before .before .copy-front .ensures ∙ all-copied (now (a .items)) (now (a .buf)) (count .result) (count .ensures);
     }
 
 pub fill-front-spec : {M : Type 1} → statement M
-fill-front-spec = tie.close (tie.spec smaller-requires copy-front-requires same-length returns)
+fill-front-spec = tie.close (tie.spec clipped-requires copy-front-requires same-length returns)

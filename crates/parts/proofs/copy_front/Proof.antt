@@ -5,10 +5,10 @@ use Prim.Native.Nat.{_-_, _≤_}
 use native.Mathlib.Omega.{arith}
 use denote.Ref.{now}
 use lib.ListN.{length, take, drop, length-set}
-use Rattle.counting.proofs.Fronts.{copied}
+use Rattle.parts.proofs.Fronts.{copied}
 use borrow.Author.Needs.{needs}
-use Rattle.counting.proofs.copy_front.Statement.{statement}
-use Rattle.counting.proofs.copy_front.Tie as tie
+use Rattle.parts.proofs.copy_front.Statement.{statement}
+use Rattle.parts.proofs.copy_front.Tie as tie
 
 abbrev Inv-loop : tie.InvT-loop
 Inv-loop source count target₀ i₀ target i = (i ≤ count) × (length target ≡ length target₀) × (target ≡ take i source ++ drop i target₀)

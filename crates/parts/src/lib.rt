@@ -1,0 +1,37 @@
+// What several calls do with slices: exchange two entries, copy a front, clip a place; and what it is to lend a part (`Lent`).
+ghost use mathlib.Core.List.{_++_};
+ghost use mathlib.Core.Path.{_≡_};
+ghost use Prim.Native.Nat.{_≤_, _<_, min};
+ghost use lib.ListN.{length, take, drop};
+ghost use Rattle.counting.specs.Lists.{swapAt};
+
+// Exchanges the entries at i and j.
+pub fn swap(items: &mut [u32], i: usize, j: usize)
+    requires { ⌜ (i < length (now items)) × (j < length (now items)) ⌝ }
+    ensures { λ _. ⌜ now (items .exit) ≡ swapAt i j (now (items .entry)) ⌝ }
+{
+    let held = items[i];
+    items[i] = items[j];
+    items[j] = held;
+}
+
+// Copies the first `count` entries.
+pub fn copy_front(source: &[u32], count: usize, target: &mut [u32])
+    requires { ⌜ (count ≤ length (now source)) × (count ≤ length (now target)) ⌝ }
+    ensures { λ _. ⌜ now (target .exit) ≡ take count (now (source .entry)) ++ drop count (now (target .entry)) ⌝ }
+{
+    for i in 0..count {
+        target[i] = source[i];
+    }
+}
+
+// The place n, or the length where n is above it.
+pub fn clipped(n: u64, length: usize) -> usize
+    ensures { λ r. ⌜ r ≡ min n length ⌝ }
+{
+    let most = length as u64;
+    if n < most {
+        return n as usize;
+    }
+    length
+}
