@@ -6,41 +6,26 @@ use super::arguments::Options;
 use super::block::end;
 use super::block::put;
 use super::block::put_number;
+use super::lists::write_line;
 use command_line::spell::spell_seed;
 use libc::STDOUT_FILENO;
+use refusal::Outcome;
 use refusal::Refusal;
 use xoshiro256plusplus::Xoshiro256PlusPlus;
-
-// What `--words` adds, where it is given.
-pub struct Reading {
-    pub is_told: bool,
-    pub words: u64,
-    pub rng: Xoshiro256PlusPlus,
-}
-
-pub fn told(o: Options, words: u64, rng: Xoshiro256PlusPlus) -> Reading {
-    Reading {
-        is_told: o.tells_words,
-        words: words,
-        rng: rng,
-    }
-}
 
 pub fn say(text: &[u8]) {
     io::write_all(STDOUT_FILENO, text);
 }
 
 // What `--words` adds. The generator is 64 hex digits, a seed that gives it back.
-fn say_reading(reading: Reading) {
-    if !reading.is_told {
-        return;
+pub fn tell(o: Options, words: u64, rng: Xoshiro256PlusPlus) {
+    if o.tells_words {
+        say(b"words ");
+        io::print_decimal(STDOUT_FILENO, words);
+        say(b"\ngenerator ");
+        say(&spell_seed(rng));
+        say(b"\n");
     }
-    let rng = reading.rng;
-    say(b"words ");
-    io::print_decimal(STDOUT_FILENO, reading.words);
-    say(b"\ngenerator ");
-    say(&spell_seed(rng));
-    say(b"\n");
 }
 
 // A number behind those before it, with a space between.
@@ -77,43 +62,49 @@ fn say_items(block: &mut [u8], items: &[u32]) {
 }
 
 // Answers numbers.
-pub fn list(items: &[u32], reading: Reading) {
+pub fn list(items: &[u32]) {
     let mut block = io::buffer();
     say_items(&mut block, items);
-    say_reading(reading);
 }
 
-// Answers that there is none.
-pub fn none(reading: Reading) {
-    say(b"none\n");
-    say_reading(reading);
-}
-
-// What a refusal means here. The others belong to changes of a table, to false hints, to a table that was not made by the call before, and to
-// a generator that no seed gives: no draw of this program has one.
-fn say_meaning(why: Refusal) {
-    match why {
-        Refusal::AmountExceedsLength => say(b"the amount is above the length\n"),
-        Refusal::NoWeights => say(b"there are no weights\n"),
-        Refusal::Overflow => say(b"the weights add up to more than 4294967295\n"),
-        Refusal::InsufficientNonZero => say(b"every weight is 0\n"),
-        Refusal::SliceTooShort => say(
-            b"the amount is above 65536, the entries of the slice for the indices\n",
-        ),
-        Refusal::ScratchTooShort => say(
-            b"the sample is due in place, and the length is above 65536, the entries of the scratch slice\n",
-        ),
-        Refusal::TooLong => say(b"the length is above 4294967295\n"),
-        Refusal::BudgetExhausted => say(b"the budget is used up, and one more word is needed\n"),
-        _ => say(b"no draw of this program is refused so\n"),
-    }
+// What a refusal means here: line n of the text is what number n of the table means. Some belong to changes of a table, to false hints, to a
+// table that was not made by the call before, and to a generator that no seed gives: no draw of this program has one.
+fn say_meaning(number: u64) {
+    write_line(
+        STDOUT_FILENO,
+        b"the draw is made
+the amount is above the length
+there are no weights
+the weights add up to more than 4294967295
+every weight is 0
+no draw of this program is refused so
+no draw of this program is refused so
+no draw of this program is refused so
+the amount is above 65536, the entries of the slice for the indices
+the sample is due in place, and the length is above 65536, the entries of the scratch slice
+the length is above 4294967295
+no draw of this program is refused so
+no draw of this program is refused so
+the budget is used up, and one more word is needed
+",
+        number,
+    );
 }
 
 // Answers that the draw is declined: the table's number, and what it means.
-pub fn refused(why: Refusal, reading: Reading) {
+pub fn refused(why: Refusal) {
+    let number = why.number() as u64;
     say(b"refused ");
-    io::print_decimal(STDOUT_FILENO, why.number() as u64);
+    io::print_decimal(STDOUT_FILENO, number);
     say(b"\n");
-    say_meaning(why);
-    say_reading(reading);
+    say_meaning(number);
+}
+
+// Answers the items of a draw, or the refusal alone.
+pub fn drawn(o: Options, outcome: Outcome, words: u64, rng: Xoshiro256PlusPlus, items: &[u32]) {
+    match outcome {
+        Outcome::Done => list(items),
+        Outcome::Refused(why) => refused(why),
+    }
+    tell(o, words, rng);
 }

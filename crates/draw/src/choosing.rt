@@ -1,54 +1,40 @@
 // Choices of one of the numbers 0, 1, ..
 ghost use Prim.Native.Nat.{_≤_};
 ghost use lib.ListN.{length};
-use super::answers;
-use super::answers::told;
+use super::answers::list;
+use super::answers::refused;
+use super::answers::say;
+use super::answers::tell;
 use super::arguments::Options;
-use super::arguments::has_words;
+use super::requests::Asked;
+use super::requests::Request;
+use super::requests::Rules;
+use super::requests::request_of;
+use super::slices::ENTRIES;
 use super::slices::at_most;
 use super::slices::count_up;
 use super::slices::entries;
 use super::slices::hint_entries;
-use super::words::seed;
-use super::words::size;
-use command_line::decimal::Parsed;
-use command_line::seed::Seed;
 use iterator::choose::Choice;
 use iterator::choose::Chosen;
 use xoshiro256plusplus::Xoshiro256PlusPlus;
 
-// Writes exact hints: at each place how many items remain, and 0 at the last, which is behind all of them.
-fn put_exact(hints: &mut [u32])
+// A hint: how many items remain, or another number where hints are not exact.
+fn hint(is_exact: bool, remain: u32, other: u32) -> u32 {
+    if is_exact {
+        return remain;
+    }
+    other
+}
+
+// Writes a list of hints. The last is for the place behind all items, where none remain.
+fn put_hints(is_exact: bool, other: u32, hints: &mut [u32])
     requires { ⌜ length (now hints) ≤ 65537 ⌝ }
 {
     let n = hints.len();
-    let mut place = 0;
-    while place < hints.len() {
+    for place in 0..n {
         let remain = (n - 1 - place) as u32;
-        hints[place] = remain;
-        place += 1;
-    }
-}
-
-// Writes the same hint at every place.
-fn put_same(hint: u32, hints: &mut [u32]) {
-    let mut place = 0;
-    while place < hints.len() {
-        hints[place] = hint;
-        place += 1;
-    }
-}
-
-// Writes both lists of hints: exact ones, or at least none and no upper bound.
-fn put_hints(is_exact: bool, lower: &mut [u32], upper: &mut [u32])
-    requires { ⌜ (length (now lower) ≤ 65537) × (length (now upper) ≤ 65537) ⌝ }
-{
-    if is_exact {
-        put_exact(lower);
-        put_exact(upper);
-    } else {
-        put_same(0, lower);
-        put_same(0xffff_ffff, upper);
+        hints[place] = hint(is_exact, remain, other);
     }
 }
 
@@ -69,19 +55,13 @@ fn chosen(
 // Answers the item, that there is none, or the refusal.
 fn answer(o: Options, c: Chosen) {
     let after = c.rng;
-    let reading = told(o, c.words, after);
     let answer = c.answer;
     match answer {
-        Choice::Item(x) => {
-            answers::list(&[x], reading);
-        }
-        Choice::Nothing => {
-            answers::none(reading);
-        }
-        Choice::Refused(why) => {
-            answers::refused(why, reading);
-        }
+        Choice::Item(x) => list(&[x]),
+        Choice::Nothing => say(b"none\n"),
+        Choice::Refused(why) => refused(why),
     }
+    tell(o, c.words, after);
 }
 
 // Fills the lists and makes the choice.
@@ -95,31 +75,35 @@ fn choose_in(
     requires { ⌜ (length (now lower) ≤ 65537) × (length (now upper) ≤ 65537) ⌝ }
 {
     count_up(items);
-    put_hints(o.is_exact, lower, upper);
+    put_hints(o.is_exact, 0, lower);
+    put_hints(o.is_exact, 0xffff_ffff, upper);
     answer(o, chosen(o, rng, items, lower, upper));
 }
 
-fn choose_of(o: Options, rng: Xoshiro256PlusPlus, length: u64) {
+fn choose_of(o: Options, r: Request) {
     let mut items = entries();
     let mut lower = hint_entries();
     let mut upper = hint_entries();
-    let n = at_most(length, &items);
+    let n = at_most(r.length, &items);
     let hints = n as u64 + 1;
     let a = at_most(hints, &lower);
     let b = at_most(hints, &upper);
+    let rng = r.rng;
     choose_in(o, rng, &mut items[..n], &mut lower[..a], &mut upper[..b]);
 }
 
 // `choose SEED LENGTH`
-pub fn choose(o: Options, places: &[u32; 65539]) {
-    if !has_words(o, 3, 3, b"choose", b"draw choose SEED LENGTH") {
-        return;
+pub fn choose(o: Options, places: &[u32; 65539], name: &[u8]) {
+    let rules = Rules {
+        least: 3,
+        most: 3,
+        largest: ENTRIES,
+        largest_amount: 0,
+        is_choice: true,
+        reads_budget: true,
+    };
+    let usage = b"draw choose SEED LENGTH";
+    if let Asked::Good(r) = request_of(o, places, rules, name, b"LENGTH", usage) {
+        choose_of(o, r);
     }
-    let Seed::Generator(rng) = seed(places) else {
-        return;
-    };
-    let Parsed::Number(length) = size(places, 2, b"LENGTH") else {
-        return;
-    };
-    choose_of(o, rng, length);
 }

@@ -1,8 +1,7 @@
 // Draws by the command line: a word for what is drawn, then its numbers. `help.rt` has the text that says how. All arguments are read before
 // anything is drawn. An answer goes to standard output, and a line on wrong arguments to standard error.
 use arguments::Options;
-use arguments::Sorted;
-use check::same;
+use lists::place_in;
 use slices::word_places;
 
 mod answers;
@@ -12,7 +11,9 @@ mod choosing;
 mod faults;
 mod filling;
 mod help;
+mod lists;
 mod picking;
+mod requests;
 mod sampling;
 mod shuffling;
 mod slices;
@@ -20,35 +21,19 @@ mod words;
 
 // Makes the draw that the first plain word names.
 fn obey(o: Options, places: &[u32; 65539], name: &[u8]) {
-    if same(name, b"help") {
-        help::show();
-        return;
+    match place_in(b"sample shuffle fill pick choose help ", name) {
+        0 => sampling::sample(o, places, name),
+        1 => shuffling::shuffle(o, places, name),
+        2 => filling::fill(o, places, name),
+        3 => picking::pick(o, places, name),
+        4 => choosing::choose(o, places, name),
+        5 => help::show(),
+        _ => faults::word(
+            b"the command",
+            name,
+            b"sample, shuffle, fill, pick, choose or help",
+        ),
     }
-    if same(name, b"sample") {
-        sampling::sample(o, places);
-        return;
-    }
-    if same(name, b"shuffle") {
-        shuffling::shuffle(o, places);
-        return;
-    }
-    if same(name, b"fill") {
-        filling::fill(o, places);
-        return;
-    }
-    if same(name, b"pick") {
-        picking::pick(o, places);
-        return;
-    }
-    if same(name, b"choose") {
-        choosing::choose(o, places);
-        return;
-    }
-    faults::word(
-        b"the command",
-        name,
-        b"sample, shuffle, fill, pick, choose or help",
-    );
 }
 
 // Makes the draw that the plain words ask for.
@@ -58,15 +43,11 @@ fn obey_words(o: Options, places: &[u32; 65539]) {
     obey(o, places, &buf[..n]);
 }
 
-fn main() {
-    if os::arg_count() < 2 {
-        sampling::first();
+// Does what the arguments ask for, if they are good.
+fn obey_all(o: Options, places: &[u32; 65539]) {
+    if !o.is_good {
         return;
     }
-    let mut places = word_places();
-    let Sorted::Good(o) = arguments::sort(&mut places) else {
-        return;
-    };
     if o.asks_help {
         help::show();
         return;
@@ -79,5 +60,15 @@ fn main() {
         );
         return;
     }
-    obey_words(o, &places);
+    obey_words(o, places);
+}
+
+fn main() {
+    if os::arg_count() < 2 {
+        sampling::first();
+        return;
+    }
+    let mut places = word_places();
+    let o = arguments::sort(&mut places);
+    obey_all(o, &places);
 }

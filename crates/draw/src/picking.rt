@@ -3,18 +3,17 @@ ghost use mathlib.Core.Path.{_≡_};
 ghost use Prim.Native.Nat.{_-_, _<_, _≤_};
 ghost use lib.ListN.{length};
 ghost use Rattle.draw.specs.Picks.{Ended, picksOf};
-use super::answers;
-use super::answers::told;
+use super::answers::drawn;
 use super::arguments::Options;
-use super::arguments::has_words;
-use super::arguments::is_no_choice;
+use super::requests::Asked;
+use super::requests::Request;
+use super::requests::Rules;
+use super::requests::request_of;
+use super::slices::ENTRIES;
 use super::slices::at_most;
 use super::slices::entries;
-use super::words::number_to;
-use super::words::seed;
-use super::words::size;
+use super::words::number;
 use command_line::decimal::Parsed;
-use command_line::seed::Seed;
 use refusal::Outcome;
 use weighted_index::answer::Choice;
 use weighted_index::answer::Made;
@@ -90,16 +89,8 @@ fn answer(
 ) {
     let p = pick_all(rng, table, sums, o.budget, picks);
     let end = p.rng;
-    let reading = told(o, after(o.budget, p.left), end);
     let outcome = p.outcome;
-    match outcome {
-        Outcome::Done => {
-            answers::list(picks, reading);
-        }
-        Outcome::Refused(why) => {
-            answers::refused(why, reading);
-        }
-    }
+    drawn(o, outcome, after(o.budget, p.left), end, picks);
 }
 
 // Makes the table and picks from it.
@@ -117,7 +108,7 @@ fn pick_in(
             answer(o, rng, t, sums, picks);
         }
         Made::Refused(why) => {
-            answers::refused(why, told(o, 0, rng));
+            drawn(o, Outcome::Refused(why), 0, rng, picks);
         }
     }
 }
@@ -126,7 +117,7 @@ fn pick_in(
 fn weight(places: &[u32; 65539], k: usize) -> Parsed
     requires { ⌜ k < 65539 ⌝ }
 {
-    number_to(
+    number(
         places,
         k,
         b"a weight",
@@ -164,12 +155,13 @@ fn read_and_pick(
     }
 }
 
-fn pick_of(o: Options, rng: Xoshiro256PlusPlus, places: &[u32; 65539], amount: u64) {
+fn pick_of(o: Options, r: Request, places: &[u32; 65539]) {
     let mut weights = entries();
     let mut sums = entries();
     let mut picks = entries();
     let n = at_most(after(o.words as u64, 3), &weights);
-    let k = at_most(amount, &picks);
+    let k = at_most(r.length, &picks);
+    let rng = r.rng;
     read_and_pick(
         o,
         rng,
@@ -181,18 +173,17 @@ fn pick_of(o: Options, rng: Xoshiro256PlusPlus, places: &[u32; 65539], amount: u
 }
 
 // `pick SEED PICKS W0 W1 ..`
-pub fn pick(o: Options, places: &[u32; 65539]) {
-    if !has_words(o, 3, 65539, b"pick", b"draw pick SEED PICKS W0 W1 ..") {
-        return;
-    }
-    if !is_no_choice(o, b"pick") {
-        return;
-    }
-    let Seed::Generator(rng) = seed(places) else {
-        return;
+pub fn pick(o: Options, places: &[u32; 65539], name: &[u8]) {
+    let rules = Rules {
+        least: 3,
+        most: 65539,
+        largest: ENTRIES,
+        largest_amount: 0,
+        is_choice: false,
+        reads_budget: true,
     };
-    let Parsed::Number(amount) = size(places, 2, b"PICKS") else {
-        return;
-    };
-    pick_of(o, rng, places, amount);
+    let usage = b"draw pick SEED PICKS W0 W1 ..";
+    if let Asked::Good(r) = request_of(o, places, rules, name, b"PICKS", usage) {
+        pick_of(o, r, places);
+    }
 }
