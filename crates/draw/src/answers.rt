@@ -1,11 +1,11 @@
 // What is answered: a line of numbers, or a refusal and what it means. With `--words` two lines follow: the words read, and the generator
 // after them.
-ghost use Prim.Native.Nat.{_≤_};
+ghost use Prim.Native.Nat.{_<_, _≤_};
 ghost use lib.ListN.{length};
+ghost use Rattle.io.specs.Counts.{Counts};
 use super::arguments::Options;
 use super::block::end;
 use super::block::put;
-use super::block::put_number;
 use super::lists::write_line;
 use command_line::spell::spell_seed;
 use libc::STDOUT_FILENO;
@@ -28,43 +28,49 @@ pub fn tell(o: Options, words: u64, rng: Xoshiro256PlusPlus) {
     }
 }
 
-// A number behind those before it, with a space between.
-fn put_next(block: &mut [u8], used: usize, i: usize, x: u32) -> usize
+// Puts a number and the byte behind it.
+fn put_item(block: &mut [u8], used: usize, x: u32, after: u8) -> usize
     requires { ⌜ used ≤ length (now block) ⌝ }
     ensures { λ r. ⌜ r ≤ length (now (block .exit)) ⌝ }
 {
-    if i == 0 {
-        return put_number(block, used, x as u64);
-    }
-    let spaced = put(block, used, b" ");
-    put_number(block, spaced, x as u64)
+    let mut text = [0u8; 20];
+    let k = io::decimal(x as u64, &mut text);
+    let at = put(block, used, &text[..k]);
+    put(block, at, &[after])
 }
 
-// Numbers with single spaces between.
-fn put_items(block: &mut [u8], used: usize, items: &[u32]) -> usize
-    requires { ⌜ used ≤ length (now block) ⌝ }
-    ensures { λ r. ⌜ r ≤ length (now (block .exit)) ⌝ }
+// The byte behind number i of so many: a space, and a line end behind the last.
+fn separator(i: usize, count: usize) -> u8
+    requires { ⌜ i < count ⌝ }
 {
-    let mut at = used;
+    if i < count - 1 {
+        return b' ';
+    }
+    b'\n'
+}
+
+// A line of numbers with single spaces between.
+fn put_items(block: &mut [u8], items: &[u32]) -> usize
+    ensures { λ r. ⌜ Counts r (now (block .exit)) ⌝ }
+{
+    let mut at = 0;
     let mut i = 0;
     while i < items.len() {
-        at = put_next(block, at, i, items[i]);
+        at = put_item(block, at, items[i], separator(i, items.len()));
         i += 1;
     }
     at
 }
 
-// A line of numbers, written block by block.
-fn say_items(block: &mut [u8], items: &[u32]) {
-    let used = put_items(block, 0, items);
-    let line = put(block, used, b"\n");
-    end(block, line);
-}
-
-// Answers numbers.
+// Answers numbers, block by block.
 pub fn list(items: &[u32]) {
+    if items.len() == 0 {
+        say(b"\n");
+        return;
+    }
     let mut block = io::buffer();
-    say_items(&mut block, items);
+    let used = put_items(&mut block, items);
+    end(&block[..used]);
 }
 
 // What a refusal means here: line n of the text is what number n of the table means. Some belong to changes of a table, to false hints, to a
@@ -89,6 +95,7 @@ the budget is used up, and one more word is needed
 ",
         number,
     );
+    say(b"\n");
 }
 
 // Answers that the draw is declined: the table's number, and what it means.

@@ -60,19 +60,15 @@ fn take_plain(mut o: Options, i: usize, places: &mut [u32; 65539]) -> Options
         o.words = k + 1;
     } else {
         o.is_good = false;
-        faults::of(
-            b"there",
-            b" are more than 65539 arguments",
-            b"at most 65536 weights, the entries that a slice of this program has",
-        );
+        faults::of(faults::THERE, faults::ARE_TOO_MANY, faults::FEWER_WEIGHTS);
     }
     o
 }
 
 // An option is given twice.
-fn repeated(mut o: Options, name: &[u8]) -> Options {
+fn repeated(mut o: Options, name: u64) -> Options {
     o.is_good = false;
-    faults::of(name, b" is given twice", b"it once");
+    faults::of(name, faults::IS_GIVEN_TWICE, faults::IT_ONCE);
     o
 }
 
@@ -80,10 +76,10 @@ fn repeated(mut o: Options, name: &[u8]) -> Options {
 fn take_budget(mut o: Options, word: &[u8]) -> Options {
     o.awaits_budget = false;
     if o.has_budget {
-        return repeated(o, b"--budget");
+        return repeated(o, faults::BUDGET);
     }
     o.has_budget = true;
-    match number_in(word, b"--budget", ANY, b"") {
+    match number_in(word, faults::BUDGET, ANY, faults::A_NUMBER) {
         Parsed::Number(n) => {
             o.budget = n;
         }
@@ -98,7 +94,7 @@ fn take_budget(mut o: Options, word: &[u8]) -> Options {
 fn take_hints(mut o: Options, word: &[u8]) -> Options {
     o.awaits_hints = false;
     if o.has_hints {
-        return repeated(o, b"--hints");
+        return repeated(o, faults::HINTS);
     }
     o.has_hints = true;
     match place_in(b"none exact ", word) {
@@ -108,7 +104,7 @@ fn take_hints(mut o: Options, word: &[u8]) -> Options {
         1 => {}
         _ => {
             o.is_good = false;
-            faults::word(b"--hints", word, b"none or exact");
+            faults::word(faults::HINTS, word, faults::A_HINT);
         }
     }
     o
@@ -134,11 +130,7 @@ fn take_option(mut o: Options, name: &[u8]) -> Options {
         }
         _ => {
             o.is_good = false;
-            faults::word(
-                b"an option",
-                name,
-                b"--budget N, --hints none, --hints exact, --stable, --words or --help",
-            );
+            faults::word(faults::OPTION, name, faults::AN_OPTION);
         }
     }
     o
@@ -176,7 +168,11 @@ fn take(mut o: Options, i: usize, places: &mut [u32; 65539]) -> Options
     let n = os::arg(i, &mut buf);
     if os::errno() != 0 {
         o.is_good = false;
-        faults::of(b"an argument", b" is too long", b"at most 256 bytes");
+        faults::of(
+            faults::ARGUMENT,
+            faults::IS_TOO_LONG,
+            faults::A_SHORT_ARGUMENT,
+        );
         return o;
     }
     take_word(o, i, &buf[..n], places)
@@ -186,15 +182,11 @@ fn take(mut o: Options, i: usize, places: &mut [u32; 65539]) -> Options
 fn end(mut o: Options) -> Options {
     if o.awaits_budget {
         o.is_good = false;
-        faults::of(b"--budget", b" has no number", b"--budget N");
+        faults::of(faults::BUDGET, faults::HAS_NO_NUMBER, faults::A_BUDGET);
     }
     if o.awaits_hints {
         o.is_good = false;
-        faults::of(
-            b"--hints",
-            b" has no word",
-            b"--hints none or --hints exact",
-        );
+        faults::of(faults::HINTS, faults::HAS_NO_HINT, faults::HINTS_WITH_HINT);
     }
     o
 }

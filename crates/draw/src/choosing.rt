@@ -6,11 +6,7 @@ use super::answers::refused;
 use super::answers::say;
 use super::answers::tell;
 use super::arguments::Options;
-use super::requests::Asked;
 use super::requests::Request;
-use super::requests::Rules;
-use super::requests::request_of;
-use super::slices::ENTRIES;
 use super::slices::at_most;
 use super::slices::count_up;
 use super::slices::entries;
@@ -80,7 +76,8 @@ fn choose_in(
     answer(o, chosen(o, rng, items, lower, upper));
 }
 
-fn choose_of(o: Options, r: Request) {
+// `choose SEED LENGTH`
+pub fn choose(o: Options, r: Request) {
     let mut items = entries();
     let mut lower = hint_entries();
     let mut upper = hint_entries();
@@ -90,20 +87,4 @@ fn choose_of(o: Options, r: Request) {
     let b = at_most(hints, &upper);
     let rng = r.rng;
     choose_in(o, rng, &mut items[..n], &mut lower[..a], &mut upper[..b]);
-}
-
-// `choose SEED LENGTH`
-pub fn choose(o: Options, places: &[u32; 65539], name: &[u8]) {
-    let rules = Rules {
-        least: 3,
-        most: 3,
-        largest: ENTRIES,
-        largest_amount: 0,
-        is_choice: true,
-        reads_budget: true,
-    };
-    let usage = b"draw choose SEED LENGTH";
-    if let Asked::Good(r) = request_of(o, places, rules, name, b"LENGTH", usage) {
-        choose_of(o, r);
-    }
 }

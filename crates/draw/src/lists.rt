@@ -31,19 +31,18 @@ pub fn place_in(list: &[u8], word: &[u8]) -> u64 {
     place
 }
 
-// Writes line k of a text, counted from 0.
+// Writes line k of a text, counted from 0, without its end.
 pub fn write_line(fd: i32, text: &[u8], k: u64) {
     let mut left = k;
     let mut start = 0;
     for i in 0..text.len() {
         if text[i] == b'\n' {
-            let end = i + 1;
             if left == 0 {
-                io::write_all(fd, &text[start..end]);
+                io::write_all(fd, &text[start..i]);
                 return;
             }
             left -= 1;
-            start = end;
+            start = i + 1;
         }
     }
 }

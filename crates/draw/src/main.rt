@@ -2,6 +2,10 @@
 // anything is drawn. An answer goes to standard output, and a line on wrong arguments to standard error.
 use arguments::Options;
 use lists::place_in;
+use requests::Asked;
+use requests::fits;
+use requests::read;
+use requests::rules_of;
 use slices::word_places;
 
 mod answers;
@@ -19,24 +23,39 @@ mod shuffling;
 mod slices;
 mod words;
 
-// Makes the draw that the first plain word names.
-fn obey(o: Options, places: &[u32; 65539], name: &[u8]) {
-    match place_in(b"sample shuffle fill pick choose help ", name) {
-        0 => sampling::sample(o, places, name),
-        1 => shuffling::shuffle(o, places, name),
-        2 => filling::fill(o, places, name),
-        3 => picking::pick(o, places, name),
-        4 => choosing::choose(o, places, name),
-        5 => help::show(),
-        _ => faults::word(
-            b"the command",
-            name,
-            b"sample, shuffle, fill, pick, choose or help",
-        ),
+// Makes the draw of a command.
+fn make(o: Options, places: &[u32; 65539], command: u64) {
+    let rules = rules_of(command);
+    if !fits(o, command, rules) {
+        return;
+    }
+    let Asked::Good(r) = read(o, places, rules) else {
+        return;
+    };
+    match command {
+        0 => sampling::sample(o, r),
+        1 => shuffling::shuffle(o, r),
+        2 => filling::fill(o, r),
+        3 => picking::pick(o, r, places),
+        _ => choosing::choose(o, r),
     }
 }
 
-// Makes the draw that the plain words ask for.
+// Does what the first plain word names.
+fn obey(o: Options, places: &[u32; 65539], name: &[u8]) {
+    let command = place_in(b"sample shuffle fill pick choose help ", name);
+    if command < 5 {
+        make(o, places, command);
+        return;
+    }
+    if command == 5 {
+        help::show();
+        return;
+    }
+    faults::word(faults::COMMAND, name, faults::A_COMMAND);
+}
+
+// Does what the plain words ask for.
 fn obey_words(o: Options, places: &[u32; 65539]) {
     let mut buf = [0u8; 256];
     let n = os::arg(words::place(places, 0), &mut buf);
@@ -53,11 +72,7 @@ fn obey_all(o: Options, places: &[u32; 65539]) {
         return;
     }
     if o.words == 0 {
-        faults::of(
-            b"there",
-            b" is no command",
-            b"sample, shuffle, fill, pick, choose or help",
-        );
+        faults::of(faults::THERE, faults::IS_NO_COMMAND, faults::A_COMMAND);
         return;
     }
     obey_words(o, places);

@@ -5,11 +5,8 @@ ghost use lib.ListN.{length};
 ghost use Rattle.draw.specs.Picks.{Ended, picksOf};
 use super::answers::drawn;
 use super::arguments::Options;
-use super::requests::Asked;
+use super::faults;
 use super::requests::Request;
-use super::requests::Rules;
-use super::requests::request_of;
-use super::slices::ENTRIES;
 use super::slices::at_most;
 use super::slices::entries;
 use super::words::number;
@@ -117,13 +114,7 @@ fn pick_in(
 fn weight(places: &[u32; 65539], k: usize) -> Parsed
     requires { ⌜ k < 65539 ⌝ }
 {
-    number(
-        places,
-        k,
-        b"a weight",
-        0xffff_ffff,
-        b"a decimal number to 4294967295",
-    )
+    number(places, k, faults::WEIGHT, 0xffff_ffff, faults::A_WEIGHT)
 }
 
 // Reads the weights, which are the plain words from the fourth on; whether all are good.
@@ -155,7 +146,8 @@ fn read_and_pick(
     }
 }
 
-fn pick_of(o: Options, r: Request, places: &[u32; 65539]) {
+// `pick SEED PICKS W0 W1 ..`
+pub fn pick(o: Options, r: Request, places: &[u32; 65539]) {
     let mut weights = entries();
     let mut sums = entries();
     let mut picks = entries();
@@ -170,20 +162,4 @@ fn pick_of(o: Options, r: Request, places: &[u32; 65539]) {
         &mut sums,
         &mut picks[..k],
     );
-}
-
-// `pick SEED PICKS W0 W1 ..`
-pub fn pick(o: Options, places: &[u32; 65539], name: &[u8]) {
-    let rules = Rules {
-        least: 3,
-        most: 65539,
-        largest: ENTRIES,
-        largest_amount: 0,
-        is_choice: false,
-        reads_budget: true,
-    };
-    let usage = b"draw pick SEED PICKS W0 W1 ..";
-    if let Asked::Good(r) = request_of(o, places, rules, name, b"PICKS", usage) {
-        pick_of(o, r, places);
-    }
 }

@@ -1,25 +1,27 @@
 // What a command asks for: the generator, and the numbers behind the seed.
-ghost use Prim.Native.Nat.{_<_};
 use super::arguments::Options;
 use super::faults;
+use super::slices::ENTRIES;
+use super::words::ANY;
 use super::words::number;
 use super::words::seed;
 use command_line::decimal::Parsed;
 use command_line::seed::Seed;
 use xoshiro256plusplus::Xoshiro256PlusPlus;
 
-// What a command takes: from `least` to `most` plain words, of which the third is a number to `largest` and the fourth, where four are the most,
-// one to `largest_amount`; and which options.
+// What a command takes: from `least` to `most` plain words, of which the third is a number to `largest`, and the fourth, where four are the
+// most, an amount to `largest_amount`; and which options.
 pub struct Rules {
     pub least: usize,
     pub most: usize,
+    pub first: u64,
     pub largest: u64,
     pub largest_amount: u64,
     pub is_choice: bool,
     pub reads_budget: bool,
 }
 
-// The amount is the length where none is given.
+// The amount is the length where none is given. The length of a pick is the number of picks.
 pub struct Request {
     pub rng: Xoshiro256PlusPlus,
     pub length: u64,
@@ -32,62 +34,98 @@ pub enum Asked {
     Bad,
 }
 
-// Whether there are as many plain words as the command takes.
-fn has_words(o: Options, rules: Rules, name: &[u8], usage: &[u8]) -> bool {
+// The rules of sample, shuffle, fill, pick and choose.
+pub fn rules_of(command: u64) -> Rules {
+    match command {
+        0 => Rules {
+            least: 4,
+            most: 4,
+            first: faults::LENGTH,
+            largest: ANY,
+            largest_amount: ANY,
+            is_choice: false,
+            reads_budget: true,
+        },
+        1 => Rules {
+            least: 3,
+            most: 4,
+            first: faults::LENGTH,
+            largest: ENTRIES,
+            largest_amount: ANY,
+            is_choice: false,
+            reads_budget: false,
+        },
+        2 => Rules {
+            least: 4,
+            most: 4,
+            first: faults::LENGTH,
+            largest: ENTRIES,
+            largest_amount: ENTRIES,
+            is_choice: false,
+            reads_budget: false,
+        },
+        3 => Rules {
+            least: 3,
+            most: 65539,
+            first: faults::PICKS,
+            largest: ENTRIES,
+            largest_amount: 0,
+            is_choice: false,
+            reads_budget: true,
+        },
+        _ => Rules {
+            least: 3,
+            most: 3,
+            first: faults::LENGTH,
+            largest: ENTRIES,
+            largest_amount: 0,
+            is_choice: true,
+            reads_budget: true,
+        },
+    }
+}
+
+// Whether a command has as many plain words as it takes, and only options that it reads.
+pub fn fits(o: Options, command: u64, rules: Rules) -> bool {
     if o.words < rules.least {
-        faults::of(name, b" lacks an argument", usage);
+        faults::of(command, faults::LACKS_WORD, command);
         return false;
     }
     if o.words > rules.most {
-        faults::of(name, b" has an argument too many", usage);
+        faults::of(command, faults::HAS_TOO_MANY, command);
         return false;
     }
-    true
-}
-
-// Whether there are only options that the command reads.
-fn has_options(o: Options, rules: Rules, name: &[u8]) -> bool {
     if !rules.is_choice & (o.is_stable | o.has_hints) {
-        faults::of(name, b" is no choice", b"--stable and --hints with choose");
+        faults::of(command, faults::IS_NO_CHOICE, faults::A_CHOICE);
         return false;
     }
     if !rules.reads_budget & o.has_budget {
-        faults::of(
-            name,
-            b" reads no budget",
-            b"--budget with sample, pick or choose",
-        );
+        faults::of(command, faults::READS_NO_BUDGET, faults::A_BUDGET_ELSEWHERE);
         return false;
     }
     true
-}
-
-// The number that plain word k is, which a slice must hold where `largest` is the number of its entries.
-fn size(places: &[u32; 65539], k: usize, what: &[u8], largest: u64) -> Parsed
-    requires { ⌜ k < 65539 ⌝ }
-{
-    number(
-        places,
-        k,
-        what,
-        largest,
-        b"at most 65536, the entries that a slice of this program has",
-    )
 }
 
 fn amount(o: Options, places: &[u32; 65539], rules: Rules, length: u64) -> Parsed {
     if (rules.most != 4) | (o.words != 4) {
         return Parsed::Number(length);
     }
-    size(places, 3, b"AMOUNT", rules.largest_amount)
+    number(
+        places,
+        3,
+        faults::AMOUNT,
+        rules.largest_amount,
+        faults::A_SIZE,
+    )
 }
 
-// Reads the seed and the numbers; `what` names the first.
-fn read(o: Options, places: &[u32; 65539], rules: Rules, what: &[u8]) -> Asked {
+// Reads the seed and the numbers.
+pub fn read(o: Options, places: &[u32; 65539], rules: Rules) -> Asked {
     let Seed::Generator(rng) = seed(places) else {
         return Asked::Bad;
     };
-    let Parsed::Number(length) = size(places, 2, what, rules.largest) else {
+    let Parsed::Number(length) = number(places, 2, rules.first, rules.largest, faults::A_SIZE)
+    else {
         return Asked::Bad;
     };
     let Parsed::Number(amount) = amount(o, places, rules, length) else {
@@ -98,22 +136,4 @@ fn read(o: Options, places: &[u32; 65539], rules: Rules, what: &[u8]) -> Asked {
         length: length,
         amount: amount,
     })
-}
-
-// What is asked for by a command of these rules.
-pub fn request_of(
-    o: Options,
-    places: &[u32; 65539],
-    rules: Rules,
-    name: &[u8],
-    what: &[u8],
-    usage: &[u8],
-) -> Asked {
-    if !has_words(o, rules, name, usage) {
-        return Asked::Bad;
-    }
-    if !has_options(o, rules, name) {
-        return Asked::Bad;
-    }
-    read(o, places, rules, what)
 }

@@ -1,15 +1,10 @@
 // Shuffles of the numbers 0, 1, ..
 use super::answers::drawn;
 use super::arguments::Options;
-use super::requests::Asked;
 use super::requests::Request;
-use super::requests::Rules;
-use super::requests::request_of;
-use super::slices::ENTRIES;
 use super::slices::at_most;
 use super::slices::count_up;
 use super::slices::entries;
-use super::words::ANY;
 use slice::partial_shuffle;
 use slice::tail;
 
@@ -24,24 +19,9 @@ fn shuffle_in(o: Options, r: Request, items: &mut [u32]) {
     drawn(o, outcome, s.words, after, shuffled);
 }
 
-fn shuffle_of(o: Options, r: Request) {
+// `shuffle SEED LENGTH` and `shuffle SEED LENGTH AMOUNT`
+pub fn shuffle(o: Options, r: Request) {
     let mut items = entries();
     let n = at_most(r.length, &items);
     shuffle_in(o, r, &mut items[..n]);
-}
-
-// `shuffle SEED LENGTH` and `shuffle SEED LENGTH AMOUNT`
-pub fn shuffle(o: Options, places: &[u32; 65539], name: &[u8]) {
-    let rules = Rules {
-        least: 3,
-        most: 4,
-        largest: ENTRIES,
-        largest_amount: ANY,
-        is_choice: false,
-        reads_budget: false,
-    };
-    let usage = b"draw shuffle SEED LENGTH [AMOUNT]";
-    if let Asked::Good(r) = request_of(o, places, rules, name, b"LENGTH", usage) {
-        shuffle_of(o, r);
-    }
 }

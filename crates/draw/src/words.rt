@@ -20,44 +20,40 @@ pub fn place(places: &[u32; 65539], k: usize) -> usize
     wide(places[k])
 }
 
-// The number that a text is; `what` names its place, and `wanted` says that more than `most` is too large.
-pub fn number_in(text: &[u8], what: &[u8], most: u64, wanted: &[u8]) -> Parsed {
+// The number that a text is. A fault names it by `name`, and `wanted` says that more than `most` is too large.
+pub fn number_in(text: &[u8], name: u64, most: u64, wanted: u64) -> Parsed {
     let parsed = parse_decimal(text);
     match parsed {
         Parsed::Number(n) => {
             if n > most {
-                faults::word(what, text, wanted);
+                faults::word(name, text, wanted);
                 return Parsed::TooLarge;
             }
         }
         Parsed::NoNumber => {
-            faults::word(what, text, b"a decimal number, of digits alone");
+            faults::word(name, text, faults::DIGITS);
         }
         Parsed::TooLarge => {
-            faults::word(what, text, b"a number to 18446744073709551615");
+            faults::word(name, text, faults::A_NUMBER);
         }
     }
     parsed
 }
 
 // The number that plain word k is.
-pub fn number(places: &[u32; 65539], k: usize, what: &[u8], most: u64, wanted: &[u8]) -> Parsed
+pub fn number(places: &[u32; 65539], k: usize, name: u64, most: u64, wanted: u64) -> Parsed
     requires { ⌜ k < 65539 ⌝ }
 {
     let mut buf = [0u8; 256];
     let n = os::arg(place(places, k), &mut buf);
-    number_in(&buf[..n], what, most, wanted)
+    number_in(&buf[..n], name, most, wanted)
 }
 
 // The seed that a text is.
 fn seed_in(text: &[u8]) -> Seed {
     let seed = parse_seed(text);
     if let Seed::NoSeed = seed {
-        faults::word(
-            b"SEED",
-            text,
-            b"a decimal number to 18446744073709551615 or 64 hex digits",
-        );
+        faults::word(faults::SEED, text, faults::A_SEED);
     }
     seed
 }

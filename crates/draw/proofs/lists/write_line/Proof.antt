@@ -19,9 +19,6 @@ loop-holds c = search needs
 shared-slice-read-if1 : tie.Need-shared-slice-read-if1 Inv-loop μ-loop
 shared-slice-read-if1 c = search needs
 
-add-end : tie.Need-add-end Inv-loop μ-loop
-add-end c = search needs
-
 sub-write-all : tie.Need-sub-write-all Inv-loop μ-loop
 sub-write-all c = search needs
 
@@ -39,6 +36,9 @@ returns c = search needs
 
 sub-left : tie.Need-sub-left Inv-loop μ-loop
 sub-left c = search needs
+
+add-start : tie.Need-add-start Inv-loop μ-loop
+add-start c = search needs
 
 add-i : tie.Need-add-i Inv-loop μ-loop
 add-i c = search needs
@@ -60,13 +60,13 @@ write-line-spec =
     μ-loop
     loop-holds
     shared-slice-read-if1
-    add-end
     sub-write-all
     part-write-all-start
     part-write-all-end
     write-all-requires
     returns
     sub-left
+    add-start
     add-i
     loop-less
     loop-again
