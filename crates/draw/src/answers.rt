@@ -3,10 +3,10 @@
 ghost use Prim.Native.Nat.{_<_, _≤_};
 ghost use lib.ListN.{length};
 ghost use Rattle.io.specs.Counts.{Counts};
-use super::arguments::Options;
 use super::block::end;
 use super::block::put;
 use super::lists::write_line;
+use super::requests::Request;
 use command_line::spell::spell_seed;
 use libc::STDOUT_FILENO;
 use refusal::Outcome;
@@ -18,8 +18,8 @@ pub fn say(text: &[u8]) {
 }
 
 // What `--words` adds. The generator is 64 hex digits, a seed that gives it back.
-pub fn tell(o: Options, words: u64, rng: Xoshiro256PlusPlus) {
-    if o.tells_words {
+pub fn tell(r: Request, words: u64, rng: Xoshiro256PlusPlus) {
+    if r.tells_words {
         say(b"words ");
         io::print_decimal(STDOUT_FILENO, words);
         say(b"\ngenerator ");
@@ -108,10 +108,10 @@ pub fn refused(why: Refusal) {
 }
 
 // Answers the items of a draw, or the refusal alone.
-pub fn drawn(o: Options, outcome: Outcome, words: u64, rng: Xoshiro256PlusPlus, items: &[u32]) {
+pub fn drawn(r: Request, outcome: Outcome, words: u64, rng: Xoshiro256PlusPlus, items: &[u32]) {
     match outcome {
         Outcome::Done => list(items),
         Outcome::Refused(why) => refused(why),
     }
-    tell(o, words, rng);
+    tell(r, words, rng);
 }

@@ -23,7 +23,7 @@ pub struct Options {
 }
 
 // No option.
-pub fn unset() -> Options {
+fn unset() -> Options {
     Options {
         is_good: true,
         words: 0,
@@ -178,7 +178,7 @@ fn take(mut o: Options, i: usize, places: &mut [u32; 65539]) -> Options
     take_word(o, i, &buf[..n], places)
 }
 
-// Whether the last argument is an option that lacks what belongs to it.
+// Whether a command or what belongs to the last option is missing.
 fn end(mut o: Options) -> Options {
     if o.awaits_budget {
         o.is_good = false;
@@ -187,6 +187,10 @@ fn end(mut o: Options) -> Options {
     if o.awaits_hints {
         o.is_good = false;
         faults::of(faults::HINTS, faults::HAS_NO_HINT, faults::HINTS_WITH_HINT);
+    }
+    if o.is_good & !o.asks_help & (o.words == 0) {
+        o.is_good = false;
+        faults::of(faults::THERE, faults::IS_NO_COMMAND, faults::A_COMMAND);
     }
     o
 }

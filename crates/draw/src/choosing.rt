@@ -8,9 +8,8 @@ use super::answers::tell;
 use super::arguments::Options;
 use super::requests::Request;
 use super::slices::at_most;
-use super::slices::count_up;
-use super::slices::entries;
 use super::slices::hint_entries;
+use super::slices::numbers;
 use iterator::choose::Choice;
 use iterator::choose::Chosen;
 use xoshiro256plusplus::Xoshiro256PlusPlus;
@@ -49,7 +48,7 @@ fn chosen(
 }
 
 // Answers the item, that there is none, or the refusal.
-fn answer(o: Options, c: Chosen) {
+fn answer(r: Request, c: Chosen) {
     let after = c.rng;
     let answer = c.answer;
     match answer {
@@ -57,34 +56,27 @@ fn answer(o: Options, c: Chosen) {
         Choice::Nothing => say(b"none\n"),
         Choice::Refused(why) => refused(why),
     }
-    tell(o, c.words, after);
+    tell(r, c.words, after);
 }
 
-// Fills the lists and makes the choice.
-fn choose_in(
-    o: Options,
-    rng: Xoshiro256PlusPlus,
-    items: &mut [u32],
-    lower: &mut [u32],
-    upper: &mut [u32],
-)
+// Writes the hints and makes the choice.
+fn choose_in(o: Options, r: Request, items: &[u32], lower: &mut [u32], upper: &mut [u32])
     requires { ⌜ (length (now lower) ≤ 65537) × (length (now upper) ≤ 65537) ⌝ }
 {
-    count_up(items);
     put_hints(o.is_exact, 0, lower);
     put_hints(o.is_exact, 0xffff_ffff, upper);
-    answer(o, chosen(o, rng, items, lower, upper));
+    let rng = r.rng;
+    answer(r, chosen(o, rng, items, lower, upper));
 }
 
 // `choose SEED LENGTH`
 pub fn choose(o: Options, r: Request) {
-    let mut items = entries();
+    let items = numbers();
     let mut lower = hint_entries();
     let mut upper = hint_entries();
     let n = at_most(r.length, &items);
     let hints = n as u64 + 1;
     let a = at_most(hints, &lower);
     let b = at_most(hints, &upper);
-    let rng = r.rng;
-    choose_in(o, rng, &mut items[..n], &mut lower[..a], &mut upper[..b]);
+    choose_in(o, r, &items[..n], &mut lower[..a], &mut upper[..b]);
 }

@@ -109,16 +109,14 @@ fn front(word: &[u8], text: &mut [u8]) -> usize
     i
 }
 
-// A word in quotes, the first 40 bytes of it.
+// The first 40 bytes of a word.
 fn say_word(word: &[u8]) {
     let mut text = [0u8; 40];
     let n = front(word, &mut text);
-    say(b"'");
     say(&text[..n]);
     if word.len() > 40 {
         say(b"...");
     }
-    say(b"'");
 }
 
 // The start of every line.
@@ -206,7 +204,8 @@ pub fn of(name: u64, wrong: u64, wanted: u64) {
 // A word is not what was expected in its place.
 pub fn word(name: u64, word: &[u8], wanted: u64) {
     say_name(name);
-    say(b" is ");
+    say(b" is '");
     say_word(word);
+    say(b"'");
     say_expected(wanted);
 }

@@ -33,10 +33,10 @@ fn make(o: Options, places: &[u32; 65539], command: u64) {
         return;
     };
     match command {
-        0 => sampling::sample(o, r),
-        1 => shuffling::shuffle(o, r),
-        2 => filling::fill(o, r),
-        3 => picking::pick(o, r, places),
+        0 => sampling::sample(r),
+        1 => shuffling::shuffle(r),
+        2 => filling::fill(r),
+        3 => picking::pick(r, places, o.words),
         _ => choosing::choose(o, r),
     }
 }
@@ -62,22 +62,6 @@ fn obey_words(o: Options, places: &[u32; 65539]) {
     obey(o, places, &buf[..n]);
 }
 
-// Does what the arguments ask for, if they are good.
-fn obey_all(o: Options, places: &[u32; 65539]) {
-    if !o.is_good {
-        return;
-    }
-    if o.asks_help {
-        help::show();
-        return;
-    }
-    if o.words == 0 {
-        faults::of(faults::THERE, faults::IS_NO_COMMAND, faults::A_COMMAND);
-        return;
-    }
-    obey_words(o, places);
-}
-
 fn main() {
     if os::arg_count() < 2 {
         sampling::first();
@@ -85,5 +69,12 @@ fn main() {
     }
     let mut places = word_places();
     let o = arguments::sort(&mut places);
-    obey_all(o, &places);
+    if !o.is_good {
+        return;
+    }
+    if o.asks_help {
+        help::show();
+        return;
+    }
+    obey_words(o, &places);
 }

@@ -21,11 +21,13 @@ pub struct Rules {
     pub reads_budget: bool,
 }
 
-// The amount is the length where none is given. The length of a pick is the number of picks.
+// What a draw is made from. The amount is the length where none is given, and the length of a pick is the number of picks.
 pub struct Request {
     pub rng: Xoshiro256PlusPlus,
     pub length: u64,
     pub amount: u64,
+    pub budget: u64,
+    pub tells_words: bool,
 }
 
 // `Bad`: a line has said what is wrong.
@@ -135,5 +137,7 @@ pub fn read(o: Options, places: &[u32; 65539], rules: Rules) -> Asked {
         rng: rng,
         length: length,
         amount: amount,
+        budget: o.budget,
+        tells_words: o.tells_words,
     })
 }

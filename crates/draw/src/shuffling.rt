@@ -1,27 +1,24 @@
 // Shuffles of the numbers 0, 1, ..
 use super::answers::drawn;
-use super::arguments::Options;
 use super::requests::Request;
 use super::slices::at_most;
-use super::slices::count_up;
-use super::slices::entries;
+use super::slices::numbers;
 use slice::partial_shuffle;
 use slice::tail;
 
 // Shuffles as many as `amount` to the end, and answers that tail.
-fn shuffle_in(o: Options, r: Request, items: &mut [u32]) {
-    count_up(items);
+fn shuffle_in(r: Request, items: &mut [u32]) {
     let rng = r.rng;
     let s = partial_shuffle(rng, items, r.amount);
     let after = s.rng;
     let outcome = s.outcome;
     let shuffled = tail(items, s.n);
-    drawn(o, outcome, s.words, after, shuffled);
+    drawn(r, outcome, s.words, after, shuffled);
 }
 
 // `shuffle SEED LENGTH` and `shuffle SEED LENGTH AMOUNT`
-pub fn shuffle(o: Options, r: Request) {
-    let mut items = entries();
+pub fn shuffle(r: Request) {
+    let mut items = numbers();
     let n = at_most(r.length, &items);
-    shuffle_in(o, r, &mut items[..n]);
+    shuffle_in(r, &mut items[..n]);
 }

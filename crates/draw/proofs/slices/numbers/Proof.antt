@@ -1,16 +1,16 @@
--- `count_up` is safe and ends. Assumes nothing.
+-- `numbers` meets its contract: the length stays. Assumes nothing.
 use mathlib.Core.Path.{_≡_}
-use Prim.Native.Nat.{_-_, _≤_}
+use Prim.Native.Nat.{_-_}
 use lib.ListN.{length}
 use borrow.Author.Needs.{needs}
-use Rattle.draw.proofs.slices.count_up.Statement.{statement}
-use Rattle.draw.proofs.slices.count_up.Tie as tie
+use Rattle.draw.proofs.slices.numbers.Statement.{statement}
+use Rattle.draw.proofs.slices.numbers.Tie as tie
 
 abbrev Inv-loop : tie.InvT-loop
-Inv-loop items₀ i₀ i-end items i = (length items ≡ length items₀) × (i-end ≡ length items₀)
+Inv-loop items₀ i₀ items i = 65536 ≡ length items
 
 abbrev μ-loop : tie.MeasureT-loop
-μ-loop items₀ i₀ i-end items i = i-end - i
+μ-loop items₀ i₀ items i = 65536 - i
 
 loop-holds : tie.Need-loop-holds Inv-loop μ-loop
 loop-holds c = search needs
@@ -21,8 +21,8 @@ cast-items c = search needs
 mul-items : tie.Need-mul-items Inv-loop μ-loop
 mul-items c = search needs
 
-slice-write-items : tie.Need-slice-write-items Inv-loop μ-loop
-slice-write-items c = search needs
+array-write-items : tie.Need-array-write-items Inv-loop μ-loop
+array-write-items c = search needs
 
 add-i : tie.Need-add-i Inv-loop μ-loop
 add-i c = search needs
@@ -33,14 +33,11 @@ loop-less c = search needs
 loop-again : tie.Need-loop-again Inv-loop μ-loop
 loop-again c = search needs
 
-same-length : tie.Need-same-length Inv-loop μ-loop
-same-length c = search needs
-
 returns : tie.Need-returns Inv-loop μ-loop
 returns c = search needs
 
-pub count-up-spec : {M : Type 1} → statement M
-count-up-spec =
+pub numbers-spec : {M : Type 1} → statement M
+numbers-spec =
     tie.close
     (tie.spec
     Inv-loop
@@ -48,9 +45,8 @@ count-up-spec =
     loop-holds
     cast-items
     mul-items
-    slice-write-items
+    array-write-items
     add-i
     loop-less
     loop-again
-    same-length
     returns)
