@@ -6,7 +6,6 @@ ghost use Rattle.io.specs.Counts.{Counts};
 use super::block::end;
 use super::block::put;
 use super::lists::write_line;
-use super::requests::Request;
 use command_line::spell::spell_seed;
 use libc::STDOUT_FILENO;
 use refusal::Outcome;
@@ -17,9 +16,9 @@ pub fn say(text: &[u8]) {
     io::write_all(STDOUT_FILENO, text);
 }
 
-// What `--words` adds. The generator is 64 hex digits, a seed that gives it back.
-pub fn tell(r: Request, words: u64, rng: Xoshiro256PlusPlus) {
-    if r.tells_words {
+// What `--words` adds, where it is given. The generator is 64 hex digits, a seed that gives it back.
+pub fn tell(is_told: bool, words: u64, rng: Xoshiro256PlusPlus) {
+    if is_told {
         say(b"words ");
         io::print_decimal(STDOUT_FILENO, words);
         say(b"\ngenerator ");
@@ -108,10 +107,10 @@ pub fn refused(why: Refusal) {
 }
 
 // Answers the items of a draw, or the refusal alone.
-pub fn drawn(r: Request, outcome: Outcome, words: u64, rng: Xoshiro256PlusPlus, items: &[u32]) {
+pub fn drawn(is_told: bool, outcome: Outcome, words: u64, rng: Xoshiro256PlusPlus, items: &[u32]) {
     match outcome {
         Outcome::Done => list(items),
         Outcome::Refused(why) => refused(why),
     }
-    tell(r, words, rng);
+    tell(is_told, words, rng);
 }

@@ -48,7 +48,7 @@ fn chosen(
 }
 
 // Answers the item, that there is none, or the refusal.
-fn answer(r: Request, c: Chosen) {
+fn answer(is_told: bool, c: Chosen) {
     let after = c.rng;
     let answer = c.answer;
     match answer {
@@ -56,7 +56,7 @@ fn answer(r: Request, c: Chosen) {
         Choice::Nothing => say(b"none\n"),
         Choice::Refused(why) => refused(why),
     }
-    tell(r, c.words, after);
+    tell(is_told, c.words, after);
 }
 
 // Writes the hints and makes the choice.
@@ -66,7 +66,7 @@ fn choose_in(o: Options, r: Request, items: &[u32], lower: &mut [u32], upper: &m
     put_hints(o.is_exact, 0, lower);
     put_hints(o.is_exact, 0xffff_ffff, upper);
     let rng = r.rng;
-    answer(r, chosen(o, rng, items, lower, upper));
+    answer(r.tells_words, chosen(o, rng, items, lower, upper));
 }
 
 // `choose SEED LENGTH`

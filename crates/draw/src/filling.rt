@@ -13,7 +13,7 @@ fn fill_into(r: Request, items: &[u32], buf: &mut [u32]) {
     let after = s.rng;
     let outcome = s.outcome;
     let n = at_most(s.count, buf);
-    drawn(r, outcome, s.words, after, &buf[..n]);
+    drawn(r.tells_words, outcome, s.words, after, &buf[..n]);
 }
 
 // `fill SEED LENGTH AMOUNT`

@@ -4,6 +4,8 @@ ghost use Prim.Native.Nat.{_-_, _<_, _≤_};
 ghost use lib.ListN.{length};
 ghost use Rattle.draw.specs.Picks.{Ended, picksOf};
 use super::answers::drawn;
+use super::answers::refused;
+use super::answers::tell;
 use super::faults;
 use super::requests::Request;
 use super::slices::at_most;
@@ -81,7 +83,7 @@ fn answer(r: Request, table: WeightedIndex, sums: &[u32], picks: &mut [u32]) {
     let p = pick_all(rng, table, sums, r.budget, picks);
     let end = p.rng;
     let outcome = p.outcome;
-    drawn(r, outcome, after(r.budget, p.left), end, picks);
+    drawn(r.tells_words, outcome, after(r.budget, p.left), end, picks);
 }
 
 // Makes the table and picks from it.
@@ -94,7 +96,8 @@ fn pick_in(r: Request, weights: &[u32], sums: &mut [u32], picks: &mut [u32]) {
         }
         Made::Refused(why) => {
             let rng = r.rng;
-            drawn(r, Outcome::Refused(why), 0, rng, picks);
+            refused(why);
+            tell(r.tells_words, 0, rng);
         }
     }
 }

@@ -38,53 +38,38 @@ pub enum Asked {
 
 // The rules of sample, shuffle, fill, pick and choose.
 pub fn rules_of(command: u64) -> Rules {
+    let mut rules = Rules {
+        least: 3,
+        most: 4,
+        first: faults::LENGTH,
+        largest: ENTRIES,
+        largest_amount: ANY,
+        is_choice: false,
+        reads_budget: true,
+    };
     match command {
-        0 => Rules {
-            least: 4,
-            most: 4,
-            first: faults::LENGTH,
-            largest: ANY,
-            largest_amount: ANY,
-            is_choice: false,
-            reads_budget: true,
-        },
-        1 => Rules {
-            least: 3,
-            most: 4,
-            first: faults::LENGTH,
-            largest: ENTRIES,
-            largest_amount: ANY,
-            is_choice: false,
-            reads_budget: false,
-        },
-        2 => Rules {
-            least: 4,
-            most: 4,
-            first: faults::LENGTH,
-            largest: ENTRIES,
-            largest_amount: ENTRIES,
-            is_choice: false,
-            reads_budget: false,
-        },
-        3 => Rules {
-            least: 3,
-            most: 65539,
-            first: faults::PICKS,
-            largest: ENTRIES,
-            largest_amount: 0,
-            is_choice: false,
-            reads_budget: true,
-        },
-        _ => Rules {
-            least: 3,
-            most: 3,
-            first: faults::LENGTH,
-            largest: ENTRIES,
-            largest_amount: 0,
-            is_choice: true,
-            reads_budget: true,
-        },
+        0 => {
+            rules.least = 4;
+            rules.largest = ANY;
+        }
+        1 => {
+            rules.reads_budget = false;
+        }
+        2 => {
+            rules.least = 4;
+            rules.largest_amount = ENTRIES;
+            rules.reads_budget = false;
+        }
+        3 => {
+            rules.most = 65539;
+            rules.first = faults::PICKS;
+        }
+        _ => {
+            rules.most = 3;
+            rules.is_choice = true;
+        }
     }
+    rules
 }
 
 // Whether a command has as many plain words as it takes, and only options that it reads.

@@ -14,7 +14,7 @@ fn sample_into(r: Request, indices: &mut [u32], scratch: &mut [u32]) {
     let after = s.rng;
     let outcome = s.outcome;
     let n = at_most(s.count, indices);
-    drawn(r, outcome, s.words, after, &indices[..n]);
+    drawn(r.tells_words, outcome, s.words, after, &indices[..n]);
 }
 
 // `sample SEED LENGTH AMOUNT`

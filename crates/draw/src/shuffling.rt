@@ -13,7 +13,7 @@ fn shuffle_in(r: Request, items: &mut [u32]) {
     let after = s.rng;
     let outcome = s.outcome;
     let shuffled = tail(items, s.n);
-    drawn(r, outcome, s.words, after, shuffled);
+    drawn(r.tells_words, outcome, s.words, after, shuffled);
 }
 
 // `shuffle SEED LENGTH` and `shuffle SEED LENGTH AMOUNT`
