@@ -10,12 +10,12 @@ use lib.Dec.{eqb}
 use lib.ListN.{length, take, drop, set, getD, length-set, drop-of-length-le}
 use lib.Seq.{drop-cons, take-suc-set, take-all}
 use borrow.Author.Tests.{eqb-true, eq-eqb, ne-eqb}
-use Rattle.xoshiro256plusplus.specs.Seed.{seeded, fromSeed}
+use Rattle.xoshiro256plusplus.specs.Seed.{fromSeed}
 use Rattle.command_line.specs.Digits.{digitOf, isDigit, every}
 use Rattle.command_line.specs.Decimal.{decimalOf}
 use Rattle.command_line.specs.Seed.{isHex, bytesOf, ofNumber, seedOf}
-use Rattle.command_line.specs.declared.decimal.Parsed.the-variants.{Number, NoNumber, TooLarge}
-use Rattle.command_line.specs.declared.seed.Seed.the-variants.{Generator, NoSeed}
+use Rattle.command_line.specs.declared.decimal.Parsed.{Parsed}
+use Rattle.command_line.specs.declared.seed.Seed.the-variants.{Generator}
 
 -- the first i bytes are made, and those of the digits that are left follow them
 pub record Made (s bytes : List ℕ) (i : ℕ) : Type 0 where
@@ -73,14 +73,6 @@ pub bytes : (s b : List ℕ) → isHex s ≡ true → b ≡ bytesOf s → Genera
 unfolding seedOf
 bytes s b e q = rw (e, q)
 
-pub number : (s : List ℕ) (n : ℕ) → isHex s ≡ false → decimalOf s ≡ Number n → Generator (seeded n) ≡ seedOf s
-unfolding seedOf ofNumber
-number s n e q = rw (e, q)
-
-pub none : (s : List ℕ) → isHex s ≡ false → decimalOf s ≡ NoNumber → NoSeed ≡ seedOf s
-unfolding seedOf ofNumber
-none s e q = rw (e, q)
-
-pub none-large : (s : List ℕ) → isHex s ≡ false → decimalOf s ≡ TooLarge → NoSeed ≡ seedOf s
-unfolding seedOf ofNumber
-none-large s e q = rw (e, q)
+pub number : (s : List ℕ) (h : Bool) (p : Parsed) → h ≡ isHex s → h ≡ false → p ≡ decimalOf s → ofNumber p ≡ seedOf s
+unfolding seedOf
+number s h p e f q = rw (← e, f, q)

@@ -17,7 +17,7 @@ use Rattle.xoshiro256plusplus.specs.declared.Xoshiro256PlusPlus.{Xoshiro256Plus
 use Rattle.command_line.specs.Digits.{between, digitOf, isDigit, every}
 use Rattle.command_line.specs.Seed.{isHex, bytesOf, seedOf}
 use Rattle.command_line.specs.Spell.{hexDigit, hexText, wordBytes, stateBytes, seedText, ReadsBack}
-use Rattle.command_line.proofs.Spelling.{length-word}
+use Rattle.command_line.proofs.Spelling.{length-word, length-text}
 use Rattle.command_line.specs.declared.seed.Seed.the-variants.{Generator}
 
 -- ---- digits
@@ -50,11 +50,6 @@ bytes-append : (s t : List ℕ) → Bytes s → Bytes t → Bytes (s ++ t)
 unfolding Bytes
 bytes-append [] t p q = q
 bytes-append (b ∷ s) t p q = (p .0, bytes-append s t (p .1) q)
-
-length-text : (bs : List ℕ) → length (hexText bs) ≡ 2 * length bs
-unfolding hexText
-length-text [] = refl
-length-text (b ∷ bs) = omega (arith, length-text bs)
 
 all-digits : (bs : List ℕ) → Bytes bs → every (isDigit 16) (hexText bs) ≡ true
 unfolding hexText every Bytes

@@ -3,7 +3,7 @@ ghost use mathlib.Core.Path.{_≡_};
 ghost use mathlib.Core.List.{_++_};
 ghost use Prim.Native.Nat.{_+_, _/_, _%_, _<_, _≤_};
 ghost use lib.ListN.{length, take, drop};
-ghost use Rattle.command_line.specs.Spell.{hexDigit, hexText, wordBytes, stateBytes, seedText};
+ghost use Rattle.command_line.specs.Spell.{hexDigit, hexText, wordBytes, seedText};
 use xoshiro256plusplus::Xoshiro256PlusPlus;
 
 // The hex digit of a number.
@@ -15,31 +15,6 @@ fn hex_digit(d: u8) -> u8
         return b'0' + d;
     }
     b'a' - 10 + d
-}
-
-// Puts the eight bytes of a word, the lowest first, from `at` on.
-fn put_word(bytes: &mut [u8], at: usize, word: u64)
-    requires { ⌜ at + 8 ≤ length (now bytes) ⌝ }
-    ensures { λ _. ⌜ now (bytes .exit) ≡ take at (now (bytes .entry)) ++ (wordBytes 8 word ++ drop (at + 8) (now (bytes .entry))) ⌝ }
-{
-    let mut rest = word;
-    for i in 0..8usize {
-        let low = (rest % 256) as u8;
-        bytes[at + i] = low;
-        rest /= 256;
-    }
-}
-
-// The bytes of a state: the definition `stateBytes`.
-fn state_bytes(rng: Xoshiro256PlusPlus) -> [u8; 32]
-    ensures { λ r. ⌜ r ≡ stateBytes rng ⌝ }
-{
-    let mut bytes = [0u8; 32];
-    put_word(&mut bytes, 0, rng.s0);
-    put_word(&mut bytes, 8, rng.s1);
-    put_word(&mut bytes, 16, rng.s2);
-    put_word(&mut bytes, 24, rng.s3);
-    bytes
 }
 
 // The digit of a byte's upper half.
@@ -56,16 +31,18 @@ fn lower_digit(b: u8) -> u8
     hex_digit(b % 16)
 }
 
-// Two digits for each of 32 bytes: the definition `hexText`.
-fn hex_text(bytes: [u8; 32]) -> [u8; 64]
-    ensures { λ r. ⌜ r ≡ hexText bytes ⌝ }
+// Puts the digits of the eight bytes of a word, the lowest byte first, from `at` on.
+fn put_word(text: &mut [u8], at: usize, word: u64)
+    requires { ⌜ at + 16 ≤ length (now text) ⌝ }
+    ensures { λ _. ⌜ now (text .exit) ≡ take at (now (text .entry)) ++ (hexText (wordBytes 8 word) ++ drop (at + 16) (now (text .entry))) ⌝ }
 {
-    let mut text = [0u8; 64];
-    for i in 0..32usize {
-        text[2 * i] = upper_digit(bytes[i]);
-        text[2 * i + 1] = lower_digit(bytes[i]);
+    let mut rest = word;
+    for i in 0..8usize {
+        let low = (rest % 256) as u8;
+        text[at + 2 * i] = upper_digit(low);
+        text[at + 2 * i + 1] = lower_digit(low);
+        rest /= 256;
     }
-    text
 }
 
 // Spells a generator as 64 hex digits: the definition `seedText`. As a seed they give the generator back (`ReadsBack`), but for the state that
@@ -73,5 +50,10 @@ fn hex_text(bytes: [u8; 32]) -> [u8; 64]
 pub fn spell_seed(rng: Xoshiro256PlusPlus) -> [u8; 64]
     ensures { λ r. ⌜ r ≡ seedText rng ⌝ }
 {
-    hex_text(state_bytes(rng))
+    let mut text = [0u8; 64];
+    put_word(&mut text, 0, rng.s0);
+    put_word(&mut text, 16, rng.s1);
+    put_word(&mut text, 32, rng.s2);
+    put_word(&mut text, 48, rng.s3);
+    text
 }

@@ -1,119 +1,116 @@
 // What is answered: a line of numbers, or a refusal and what it means. With `--words` two lines follow: the words read, and the generator
 // after them.
-ghost use Prim.Native.Nat.{_≤_};
+ghost use Prim.Native.Nat.{_<_, _≤_};
 ghost use lib.ListN.{length};
-use super::arguments::Options;
+ghost use Rattle.io.specs.Counts.{Counts};
 use super::block::end;
 use super::block::put;
-use super::block::put_number;
+use super::lists::write_line;
 use command_line::spell::spell_seed;
 use libc::STDOUT_FILENO;
+use refusal::Outcome;
 use refusal::Refusal;
 use xoshiro256plusplus::Xoshiro256PlusPlus;
-
-// What `--words` adds, where it is given.
-pub struct Reading {
-    pub is_told: bool,
-    pub words: u64,
-    pub rng: Xoshiro256PlusPlus,
-}
-
-pub fn told(o: Options, words: u64, rng: Xoshiro256PlusPlus) -> Reading {
-    Reading {
-        is_told: o.tells_words,
-        words: words,
-        rng: rng,
-    }
-}
 
 pub fn say(text: &[u8]) {
     io::write_all(STDOUT_FILENO, text);
 }
 
-// What `--words` adds. The generator is 64 hex digits, a seed that gives it back.
-fn say_reading(reading: Reading) {
-    if !reading.is_told {
-        return;
+// What `--words` adds, where it is given. The generator is 64 hex digits, a seed that gives it back.
+pub fn tell(is_told: bool, words: u64, rng: Xoshiro256PlusPlus) {
+    if is_told {
+        say(b"words ");
+        io::print_decimal(STDOUT_FILENO, words);
+        say(b"\ngenerator ");
+        say(&spell_seed(rng));
+        say(b"\n");
     }
-    let rng = reading.rng;
-    say(b"words ");
-    io::print_decimal(STDOUT_FILENO, reading.words);
-    say(b"\ngenerator ");
-    say(&spell_seed(rng));
-    say(b"\n");
 }
 
-// A number behind those before it, with a space between.
-fn put_next(block: &mut [u8], used: usize, i: usize, x: u32) -> usize
+// Puts a number and the byte behind it.
+fn put_item(block: &mut [u8], used: usize, x: u32, after: u8) -> usize
     requires { ⌜ used ≤ length (now block) ⌝ }
     ensures { λ r. ⌜ r ≤ length (now (block .exit)) ⌝ }
 {
-    if i == 0 {
-        return put_number(block, used, x as u64);
-    }
-    let spaced = put(block, used, b" ");
-    put_number(block, spaced, x as u64)
+    let mut text = [0u8; 20];
+    let k = io::decimal(x as u64, &mut text);
+    let at = put(block, used, &text[..k]);
+    put(block, at, &[after])
 }
 
-// Numbers with single spaces between.
-fn put_items(block: &mut [u8], used: usize, items: &[u32]) -> usize
-    requires { ⌜ used ≤ length (now block) ⌝ }
-    ensures { λ r. ⌜ r ≤ length (now (block .exit)) ⌝ }
+// The byte behind number i of so many: a space, and a line end behind the last.
+fn separator(i: usize, count: usize) -> u8
+    requires { ⌜ i < count ⌝ }
 {
-    let mut at = used;
+    if i < count - 1 {
+        return b' ';
+    }
+    b'\n'
+}
+
+// A line of numbers with single spaces between.
+fn put_items(block: &mut [u8], items: &[u32]) -> usize
+    ensures { λ r. ⌜ Counts r (now (block .exit)) ⌝ }
+{
+    let mut at = 0;
     let mut i = 0;
     while i < items.len() {
-        at = put_next(block, at, i, items[i]);
+        at = put_item(block, at, items[i], separator(i, items.len()));
         i += 1;
     }
     at
 }
 
-// A line of numbers, written block by block.
-fn say_items(block: &mut [u8], items: &[u32]) {
-    let used = put_items(block, 0, items);
-    let line = put(block, used, b"\n");
-    end(block, line);
-}
-
-// Answers numbers.
-pub fn list(items: &[u32], reading: Reading) {
-    let mut block = io::buffer();
-    say_items(&mut block, items);
-    say_reading(reading);
-}
-
-// Answers that there is none.
-pub fn none(reading: Reading) {
-    say(b"none\n");
-    say_reading(reading);
-}
-
-// What a refusal means here. The others belong to changes of a table, to false hints, to a table that was not made by the call before, and to
-// a generator that no seed gives: no draw of this program has one.
-fn say_meaning(why: Refusal) {
-    match why {
-        Refusal::AmountExceedsLength => say(b"the amount is above the length\n"),
-        Refusal::NoWeights => say(b"there are no weights\n"),
-        Refusal::Overflow => say(b"the weights add up to more than 4294967295\n"),
-        Refusal::InsufficientNonZero => say(b"every weight is 0\n"),
-        Refusal::SliceTooShort => say(
-            b"the amount is above 65536, the entries of the slice for the indices\n",
-        ),
-        Refusal::ScratchTooShort => say(
-            b"the sample is due in place, and the length is above 65536, the entries of the scratch slice\n",
-        ),
-        Refusal::TooLong => say(b"the length is above 4294967295\n"),
-        Refusal::BudgetExhausted => say(b"the budget is used up, and one more word is needed\n"),
-        _ => say(b"no draw of this program is refused so\n"),
+// Answers numbers, block by block.
+pub fn list(items: &[u32]) {
+    if items.len() == 0 {
+        say(b"\n");
+        return;
     }
+    let mut block = io::buffer();
+    let used = put_items(&mut block, items);
+    end(&block[..used]);
+}
+
+// What a refusal means here: line n of the text is what number n of the table means. Some belong to changes of a table, to false hints, to a
+// table that was not made by the call before, and to a generator that no seed gives: no draw of this program has one.
+fn say_meaning(number: u64) {
+    write_line(
+        STDOUT_FILENO,
+        b"the draw is made
+the amount is above the length
+there are no weights
+the weights add up to more than 4294967295
+every weight is 0
+no draw of this program is refused so
+no draw of this program is refused so
+no draw of this program is refused so
+the amount is above 65536, the entries of the slice for the indices
+the sample is due in place, and the length is above 65536, the entries of the scratch slice
+the length is above 4294967295
+no draw of this program is refused so
+no draw of this program is refused so
+the budget is used up, and one more word is needed
+",
+        number,
+    );
+    say(b"\n");
 }
 
 // Answers that the draw is declined: the table's number, and what it means.
-pub fn refused(why: Refusal, reading: Reading) {
+pub fn refused(why: Refusal) {
+    let number = why.number() as u64;
     say(b"refused ");
-    io::print_decimal(STDOUT_FILENO, why.number() as u64);
+    io::print_decimal(STDOUT_FILENO, number);
     say(b"\n");
-    say_meaning(why);
-    say_reading(reading);
+    say_meaning(number);
+}
+
+// Answers the items of a draw, or the refusal alone.
+pub fn drawn(is_told: bool, outcome: Outcome, words: u64, rng: Xoshiro256PlusPlus, items: &[u32]) {
+    match outcome {
+        Outcome::Done => list(items),
+        Outcome::Refused(why) => refused(why),
+    }
+    tell(is_told, words, rng);
 }

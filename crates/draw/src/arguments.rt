@@ -1,13 +1,15 @@
 // The arguments, told apart: options, which may stand anywhere, and plain words.
-ghost use mathlib.Core.Path.{_≡_};
-ghost use Prim.Native.Nat.{_+_, _<_, _≤_};
+ghost use Prim.Native.Nat.{_<_};
 use super::faults;
+use super::lists::place_in;
+use super::words::ANY;
 use super::words::number_in;
-use check::same;
 use command_line::decimal::Parsed;
 
-// What the options say, and how many plain words there are.
+// What the options say, how many plain words there are, and whether the next argument belongs to an option. Where `is_good` is false a line has
+// said what is wrong.
 pub struct Options {
+    pub is_good: bool,
     pub words: usize,
     pub budget: u64,
     pub has_budget: bool,
@@ -16,53 +18,24 @@ pub struct Options {
     pub is_stable: bool,
     pub tells_words: bool,
     pub asks_help: bool,
-}
-
-// What all arguments together say. `Bad`: a line has said what is wrong.
-pub enum Sorted {
-    Good(Options),
-    Bad,
-}
-
-// The options after an argument, and the argument that comes next; none where one is wrong.
-struct Step {
-    options: Options,
-    next: usize,
-    is_good: bool,
+    awaits_budget: bool,
+    awaits_hints: bool,
 }
 
 // No option.
-pub fn unset() -> Options {
+fn unset() -> Options {
     Options {
+        is_good: true,
         words: 0,
-        budget: 0xffff_ffff_ffff_ffff,
+        budget: ANY,
         has_budget: false,
         has_hints: false,
         is_exact: true,
         is_stable: false,
         tells_words: false,
         asks_help: false,
-    }
-}
-
-fn stop(o: Options, i: usize) -> Step
-    requires { ⌜ i < 4294967295 ⌝ }
-    ensures { λ r. ⌜ r .next ≡ i + 1 ⌝ }
-{
-    Step {
-        options: o,
-        next: i + 1,
-        is_good: false,
-    }
-}
-
-fn go_on(o: Options, next: usize) -> Step
-    ensures { λ r. ⌜ r .next ≡ next ⌝ }
-{
-    Step {
-        options: o,
-        next: next,
-        is_good: true,
+        awaits_budget: false,
+        awaits_hints: false,
     }
 }
 
@@ -78,108 +51,89 @@ fn argument_count() -> usize
 }
 
 // A plain word: its place is kept.
-fn take_plain(mut o: Options, i: usize, places: &mut [u32; 65539]) -> Step
+fn take_plain(mut o: Options, i: usize, places: &mut [u32; 65539]) -> Options
     requires { ⌜ i < 4294967295 ⌝ }
-    ensures { λ r. ⌜ i < r .next ⌝ }
 {
     let k = o.words;
-    if k >= 65539 {
-        faults::of(
-            b"there",
-            b" are more than 65539 arguments",
-            b"at most 65536 weights, the entries that a slice of this program has",
-        );
-        return stop(o, i);
+    if k < 65539 {
+        places[k] = i as u32;
+        o.words = k + 1;
+    } else {
+        o.is_good = false;
+        faults::of(faults::THERE, faults::ARE_TOO_MANY, faults::FEWER_WEIGHTS);
     }
-    places[k] = i as u32;
-    o.words = k + 1;
-    go_on(o, i + 1)
+    o
+}
+
+// An option is given twice.
+fn repeated(mut o: Options, name: u64) -> Options {
+    o.is_good = false;
+    faults::of(name, faults::IS_GIVEN_TWICE, faults::IT_ONCE);
+    o
 }
 
 // The number behind `--budget`.
-fn take_budget(mut o: Options, i: usize) -> Step
-    requires { ⌜ i < 4294967295 ⌝ }
-    ensures { λ r. ⌜ i < r .next ⌝ }
-{
-    let mut buf = [0u8; 256];
-    let n = os::arg(i + 1, &mut buf);
-    if os::errno() != 0 {
-        faults::of(b"--budget", b" has no number", b"--budget N");
-        return stop(o, i);
-    }
+fn take_budget(mut o: Options, word: &[u8]) -> Options {
+    o.awaits_budget = false;
     if o.has_budget {
-        faults::of(b"--budget", b" is given twice", b"it once");
-        return stop(o, i);
+        return repeated(o, faults::BUDGET);
     }
-    let Parsed::Number(budget) = number_in(&buf[..n], b"--budget") else {
-        return stop(o, i);
-    };
     o.has_budget = true;
-    o.budget = budget;
-    go_on(o, i + 2)
+    match number_in(word, faults::BUDGET, ANY, faults::A_NUMBER) {
+        Parsed::Number(n) => {
+            o.budget = n;
+        }
+        _ => {
+            o.is_good = false;
+        }
+    }
+    o
 }
 
 // The word behind `--hints`.
-fn take_hints(mut o: Options, i: usize) -> Step
-    requires { ⌜ i < 4294967295 ⌝ }
-    ensures { λ r. ⌜ i < r .next ⌝ }
-{
-    let mut buf = [0u8; 256];
-    let n = os::arg(i + 1, &mut buf);
-    if os::errno() != 0 {
-        faults::of(
-            b"--hints",
-            b" has no word",
-            b"--hints none or --hints exact",
-        );
-        return stop(o, i);
-    }
-    let kind = &buf[..n];
+fn take_hints(mut o: Options, word: &[u8]) -> Options {
+    o.awaits_hints = false;
     if o.has_hints {
-        faults::of(b"--hints", b" is given twice", b"it once");
-        return stop(o, i);
+        return repeated(o, faults::HINTS);
     }
     o.has_hints = true;
-    if same(kind, b"none") {
-        o.is_exact = false;
-        return go_on(o, i + 2);
+    match place_in(b"none exact ", word) {
+        0 => {
+            o.is_exact = false;
+        }
+        1 => {}
+        _ => {
+            o.is_good = false;
+            faults::word(faults::HINTS, word, faults::A_HINT);
+        }
     }
-    if same(kind, b"exact") {
-        return go_on(o, i + 2);
-    }
-    faults::word(b"--hints", kind, b"none or exact");
-    stop(o, i)
+    o
 }
 
 // An option.
-fn take_option(mut o: Options, i: usize, name: &[u8]) -> Step
-    requires { ⌜ i < 4294967295 ⌝ }
-    ensures { λ r. ⌜ i < r .next ⌝ }
-{
-    if same(name, b"--budget") {
-        return take_budget(o, i);
+fn take_option(mut o: Options, name: &[u8]) -> Options {
+    match place_in(b"--budget --hints --stable --words --help ", name) {
+        0 => {
+            o.awaits_budget = true;
+        }
+        1 => {
+            o.awaits_hints = true;
+        }
+        2 => {
+            o.is_stable = true;
+        }
+        3 => {
+            o.tells_words = true;
+        }
+        4 => {
+            o.asks_help = true;
+        }
+        _ => {
+            o.is_good = false;
+            faults::word(faults::OPTION, name, faults::AN_OPTION);
+        }
     }
-    if same(name, b"--hints") {
-        return take_hints(o, i);
-    }
-    if same(name, b"--stable") {
-        o.is_stable = true;
-        return go_on(o, i + 1);
-    }
-    if same(name, b"--words") {
-        o.tells_words = true;
-        return go_on(o, i + 1);
-    }
-    if same(name, b"--help") {
-        o.asks_help = true;
-        return go_on(o, i + 1);
-    }
-    faults::word(
-        b"an option",
-        name,
-        b"--budget N, --hints none, --hints exact, --stable, --words or --help",
-    );
-    stop(o, i)
+    o
 }
 
 // Whether a word is an option: it starts with two hyphens.
@@ -187,78 +141,68 @@ fn is_option(word: &[u8]) -> bool {
     if word.len() < 2 {
         return false;
     }
-    if word[0] != b'-' {
-        return false;
-    }
-    word[1] == b'-'
+    (word[0] == b'-') & (word[1] == b'-')
 }
 
 // One argument.
-fn take(o: Options, i: usize, places: &mut [u32; 65539]) -> Step
+fn take_word(o: Options, i: usize, word: &[u8], places: &mut [u32; 65539]) -> Options
     requires { ⌜ i < 4294967295 ⌝ }
-    ensures { λ r. ⌜ i < r .next ⌝ }
 {
-    let mut buf = [0u8; 256];
-    let n = os::arg(i, &mut buf);
-    if os::errno() != 0 {
-        faults::of(b"an argument", b" is too long", b"at most 256 bytes");
-        return stop(o, i);
+    if o.awaits_budget {
+        return take_budget(o, word);
     }
-    let word = &buf[..n];
+    if o.awaits_hints {
+        return take_hints(o, word);
+    }
     if is_option(word) {
-        return take_option(o, i, word);
+        return take_option(o, word);
     }
     take_plain(o, i, places)
 }
 
-// Goes through all arguments.
-pub fn sort(places: &mut [u32; 65539]) -> Sorted {
-    let count = argument_count();
-    let mut o = unset();
-    let mut i = 1;
-    while i < count {
-        let step = take(o, i, places);
-        if !step.is_good {
-            return Sorted::Bad;
-        }
-        let options = step.options;
-        o = options;
-        i = step.next;
-    }
-    Sorted::Good(o)
-}
-
-// Whether a command has so many plain words, from `least` to `most`; a line says so where it has not.
-pub fn has_words(o: Options, least: usize, most: usize, name: &[u8], usage: &[u8]) -> bool {
-    if o.words < least {
-        faults::of(name, b" lacks an argument", usage);
-        return false;
-    }
-    if o.words > most {
-        faults::of(name, b" has an argument too many", usage);
-        return false;
-    }
-    true
-}
-
-// Whether a command that reads no budget is given none.
-pub fn has_no_budget(o: Options, name: &[u8]) -> bool {
-    if o.has_budget {
+// Reads an argument and takes it.
+fn take(mut o: Options, i: usize, places: &mut [u32; 65539]) -> Options
+    requires { ⌜ i < 4294967295 ⌝ }
+{
+    let mut buf = [0u8; 256];
+    let n = os::arg(i, &mut buf);
+    if os::errno() != 0 {
+        o.is_good = false;
         faults::of(
-            name,
-            b" reads no budget",
-            b"--budget with sample, pick or choose",
+            faults::ARGUMENT,
+            faults::IS_TOO_LONG,
+            faults::A_SHORT_ARGUMENT,
         );
-        return false;
+        return o;
     }
-    true
+    take_word(o, i, &buf[..n], places)
 }
 
-// Whether a command that is no choice is given no option of one.
-pub fn is_no_choice(o: Options, name: &[u8]) -> bool {
-    if o.is_stable || o.has_hints {
-        faults::of(name, b" is no choice", b"--stable and --hints with choose");
-        return false;
+// Whether a command or what belongs to the last option is missing.
+fn end(mut o: Options) -> Options {
+    if o.awaits_budget {
+        o.is_good = false;
+        faults::of(faults::BUDGET, faults::HAS_NO_NUMBER, faults::A_BUDGET);
     }
-    true
+    if o.awaits_hints {
+        o.is_good = false;
+        faults::of(faults::HINTS, faults::HAS_NO_HINT, faults::HINTS_WITH_HINT);
+    }
+    if o.is_good & !o.asks_help & (o.words == 0) {
+        o.is_good = false;
+        faults::of(faults::THERE, faults::IS_NO_COMMAND, faults::A_COMMAND);
+    }
+    o
+}
+
+// Goes through all arguments.
+pub fn sort(places: &mut [u32; 65539]) -> Options {
+    let mut o = unset();
+    for i in 1..argument_count() {
+        o = take(o, i, places);
+        if !o.is_good {
+            return o;
+        }
+    }
+    end(o)
 }

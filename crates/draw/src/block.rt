@@ -23,21 +23,9 @@ pub fn put(block: &mut [u8], used: usize, text: &[u8]) -> usize
     append(block, 0, text)
 }
 
-// Puts a number in decimal.
-pub fn put_number(block: &mut [u8], used: usize, n: u64) -> usize
-    requires { ⌜ used ≤ length (now block) ⌝ }
-    ensures { λ r. ⌜ r ≤ length (now (block .exit)) ⌝ }
-{
-    let mut text = [0u8; 20];
-    let k = io::decimal(n, &mut text);
-    put(block, used, &text[..k])
-}
-
-// Writes what the block holds. Where that fails a line on standard error says why.
-pub fn end(block: &mut [u8], used: usize)
-    requires { ⌜ used ≤ length (now block) ⌝ }
-{
-    if !io::write_all(STDOUT_FILENO, &block[..used]) {
+// Writes what a block holds. Where that fails a line on standard error says why.
+pub fn end(text: &[u8]) {
+    if !io::write_all(STDOUT_FILENO, text) {
         os::fail(b"draw: the answer cannot be written");
     }
 }

@@ -1,54 +1,35 @@
 // Choices of one of the numbers 0, 1, ..
 ghost use Prim.Native.Nat.{_≤_};
 ghost use lib.ListN.{length};
-use super::answers;
-use super::answers::told;
+use super::answers::list;
+use super::answers::refused;
+use super::answers::say;
+use super::answers::tell;
 use super::arguments::Options;
-use super::arguments::has_words;
+use super::requests::Request;
 use super::slices::at_most;
-use super::slices::count_up;
-use super::slices::entries;
 use super::slices::hint_entries;
-use super::words::seed;
-use super::words::size;
+use super::slices::numbers;
 use choose::Choice;
 use choose::Chosen;
-use command_line::decimal::Parsed;
-use command_line::seed::Seed;
 use xoshiro256plusplus::Xoshiro256PlusPlus;
 
-// Writes exact hints: at each place how many items remain, and 0 at the last, which is behind all of them.
-fn put_exact(hints: &mut [u32])
+// A hint: how many items remain, or another number where hints are not exact.
+fn hint(is_exact: bool, remain: u32, other: u32) -> u32 {
+    if is_exact {
+        return remain;
+    }
+    other
+}
+
+// Writes a list of hints. The last is for the place behind all items, where none remain.
+fn put_hints(is_exact: bool, other: u32, hints: &mut [u32])
     requires { ⌜ length (now hints) ≤ 65537 ⌝ }
 {
     let n = hints.len();
-    let mut place = 0;
-    while place < hints.len() {
+    for place in 0..n {
         let remain = (n - 1 - place) as u32;
-        hints[place] = remain;
-        place += 1;
-    }
-}
-
-// Writes the same hint at every place.
-fn put_same(hint: u32, hints: &mut [u32]) {
-    let mut place = 0;
-    while place < hints.len() {
-        hints[place] = hint;
-        place += 1;
-    }
-}
-
-// Writes both lists of hints: exact ones, or at least none and no upper bound.
-fn put_hints(is_exact: bool, lower: &mut [u32], upper: &mut [u32])
-    requires { ⌜ (length (now lower) ≤ 65537) × (length (now upper) ≤ 65537) ⌝ }
-{
-    if is_exact {
-        put_exact(lower);
-        put_exact(upper);
-    } else {
-        put_same(0, lower);
-        put_same(0xffff_ffff, upper);
+        hints[place] = hint(is_exact, remain, other);
     }
 }
 
@@ -67,59 +48,35 @@ fn chosen(
 }
 
 // Answers the item, that there is none, or the refusal.
-fn answer(o: Options, c: Chosen) {
+fn answer(is_told: bool, c: Chosen) {
     let after = c.rng;
-    let reading = told(o, c.words, after);
     let answer = c.answer;
     match answer {
-        Choice::Item(x) => {
-            answers::list(&[x], reading);
-        }
-        Choice::Nothing => {
-            answers::none(reading);
-        }
-        Choice::Refused(why) => {
-            answers::refused(why, reading);
-        }
+        Choice::Item(x) => list(&[x]),
+        Choice::Nothing => say(b"none\n"),
+        Choice::Refused(why) => refused(why),
     }
+    tell(is_told, c.words, after);
 }
 
-// Fills the lists and makes the choice.
-fn choose_in(
-    o: Options,
-    rng: Xoshiro256PlusPlus,
-    items: &mut [u32],
-    lower: &mut [u32],
-    upper: &mut [u32],
-)
+// Writes the hints and makes the choice.
+fn choose_in(o: Options, r: Request, items: &[u32], lower: &mut [u32], upper: &mut [u32])
     requires { ⌜ (length (now lower) ≤ 65537) × (length (now upper) ≤ 65537) ⌝ }
 {
-    count_up(items);
-    put_hints(o.is_exact, lower, upper);
-    answer(o, chosen(o, rng, items, lower, upper));
-}
-
-fn choose_of(o: Options, rng: Xoshiro256PlusPlus, length: u64) {
-    let mut items = entries();
-    let mut lower = hint_entries();
-    let mut upper = hint_entries();
-    let n = at_most(length, &items);
-    let hints = n as u64 + 1;
-    let a = at_most(hints, &lower);
-    let b = at_most(hints, &upper);
-    choose_in(o, rng, &mut items[..n], &mut lower[..a], &mut upper[..b]);
+    put_hints(o.is_exact, 0, lower);
+    put_hints(o.is_exact, 0xffff_ffff, upper);
+    let rng = r.rng;
+    answer(r.tells_words, chosen(o, rng, items, lower, upper));
 }
 
 // `choose SEED LENGTH`
-pub fn choose(o: Options, places: &[u32; 65539]) {
-    if !has_words(o, 3, 3, b"choose", b"draw choose SEED LENGTH") {
-        return;
-    }
-    let Seed::Generator(rng) = seed(places) else {
-        return;
-    };
-    let Parsed::Number(length) = size(places, 2, b"LENGTH") else {
-        return;
-    };
-    choose_of(o, rng, length);
+pub fn choose(o: Options, r: Request) {
+    let items = numbers();
+    let mut lower = hint_entries();
+    let mut upper = hint_entries();
+    let n = at_most(r.length, &items);
+    let hints = n as u64 + 1;
+    let a = at_most(hints, &lower);
+    let b = at_most(hints, &upper);
+    choose_in(o, r, &items[..n], &mut lower[..a], &mut upper[..b]);
 }

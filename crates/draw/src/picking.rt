@@ -3,18 +3,15 @@ ghost use mathlib.Core.Path.{_≡_};
 ghost use Prim.Native.Nat.{_-_, _<_, _≤_};
 ghost use lib.ListN.{length};
 ghost use Rattle.draw.specs.Picks.{Ended, picksOf};
-use super::answers;
-use super::answers::told;
-use super::arguments::Options;
-use super::arguments::has_words;
-use super::arguments::is_no_choice;
+use super::answers::drawn;
+use super::answers::refused;
+use super::answers::tell;
+use super::faults;
+use super::requests::Request;
 use super::slices::at_most;
 use super::slices::entries;
-use super::words::number_to;
-use super::words::seed;
-use super::words::size;
+use super::words::number;
 use command_line::decimal::Parsed;
-use command_line::seed::Seed;
 use pick::Choice;
 use pick::Picked;
 use pick::sample;
@@ -81,58 +78,35 @@ fn pick_all(
 }
 
 // Makes the picks and answers them, or the refusal alone.
-fn answer(
-    o: Options,
-    rng: Xoshiro256PlusPlus,
-    table: WeightedIndex,
-    sums: &[u32],
-    picks: &mut [u32],
-) {
-    let p = pick_all(rng, table, sums, o.budget, picks);
+fn answer(r: Request, table: WeightedIndex, sums: &[u32], picks: &mut [u32]) {
+    let rng = r.rng;
+    let p = pick_all(rng, table, sums, r.budget, picks);
     let end = p.rng;
-    let reading = told(o, after(o.budget, p.left), end);
     let outcome = p.outcome;
-    match outcome {
-        Outcome::Done => {
-            answers::list(picks, reading);
-        }
-        Outcome::Refused(why) => {
-            answers::refused(why, reading);
-        }
-    }
+    drawn(r.tells_words, outcome, after(r.budget, p.left), end, picks);
 }
 
 // Makes the table and picks from it.
-fn pick_in(
-    o: Options,
-    rng: Xoshiro256PlusPlus,
-    weights: &[u32],
-    sums: &mut [u32],
-    picks: &mut [u32],
-) {
+fn pick_in(r: Request, weights: &[u32], sums: &mut [u32], picks: &mut [u32]) {
     let made = new(weights, sums);
     let table = made.answer;
     match table {
         Made::Table(t) => {
-            answer(o, rng, t, sums, picks);
+            answer(r, t, sums, picks);
         }
         Made::Refused(why) => {
-            answers::refused(why, told(o, 0, rng));
+            let rng = r.rng;
+            refused(why);
+            tell(r.tells_words, 0, rng);
         }
     }
 }
 
-// The weight that plain word k is.
-fn weight(places: &[u32; 65539], k: usize) -> Parsed
-    requires { ⌜ k < 65539 ⌝ }
-{
-    number_to(
-        places,
-        k,
-        b"a weight",
-        0xffff_ffff,
-        b"a decimal number to 4294967295",
-    )
+fn pick_from(r: Request, weights: &[u32]) {
+    let mut sums = entries();
+    let mut picks = entries();
+    let k = at_most(r.length, &picks);
+    pick_in(r, weights, &mut sums, &mut picks[..k]);
 }
 
 // Reads the weights, which are the plain words from the fourth on; whether all are good.
@@ -140,7 +114,8 @@ fn read_weights(places: &[u32; 65539], weights: &mut [u32]) -> bool
     requires { ⌜ length (now weights) ≤ 65536 ⌝ }
 {
     for i in 0..weights.len() {
-        let Parsed::Number(w) = weight(places, i + 3) else {
+        let Parsed::Number(w) = number(places, i + 3, faults::WEIGHT, 0xffff_ffff, faults::A_WEIGHT)
+        else {
             return false;
         };
         weights[i] = (w % 0x1_0000_0000) as u32;
@@ -149,50 +124,17 @@ fn read_weights(places: &[u32; 65539], weights: &mut [u32]) -> bool
 }
 
 // Reads the weights, and picks where all are good.
-fn read_and_pick(
-    o: Options,
-    rng: Xoshiro256PlusPlus,
-    places: &[u32; 65539],
-    weights: &mut [u32],
-    sums: &mut [u32],
-    picks: &mut [u32],
-)
+fn read_and_pick(r: Request, places: &[u32; 65539], weights: &mut [u32])
     requires { ⌜ length (now weights) ≤ 65536 ⌝ }
 {
     if read_weights(places, weights) {
-        pick_in(o, rng, weights, sums, picks);
+        pick_from(r, weights);
     }
-}
-
-fn pick_of(o: Options, rng: Xoshiro256PlusPlus, places: &[u32; 65539], amount: u64) {
-    let mut weights = entries();
-    let mut sums = entries();
-    let mut picks = entries();
-    let n = at_most(after(o.words as u64, 3), &weights);
-    let k = at_most(amount, &picks);
-    read_and_pick(
-        o,
-        rng,
-        places,
-        &mut weights[..n],
-        &mut sums,
-        &mut picks[..k],
-    );
 }
 
 // `pick SEED PICKS W0 W1 ..`
-pub fn pick(o: Options, places: &[u32; 65539]) {
-    if !has_words(o, 3, 65539, b"pick", b"draw pick SEED PICKS W0 W1 ..") {
-        return;
-    }
-    if !is_no_choice(o, b"pick") {
-        return;
-    }
-    let Seed::Generator(rng) = seed(places) else {
-        return;
-    };
-    let Parsed::Number(amount) = size(places, 2, b"PICKS") else {
-        return;
-    };
-    pick_of(o, rng, places, amount);
+pub fn pick(r: Request, places: &[u32; 65539], words: usize) {
+    let mut weights = entries();
+    let n = at_most(after(words as u64, 3), &weights);
+    read_and_pick(r, places, &mut weights[..n]);
 }

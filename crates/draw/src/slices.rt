@@ -39,16 +39,13 @@ pub fn at_most(n: u64, items: &[u32]) -> usize
     }
 }
 
-// Puts 0, 1, .. into a slice.
-pub fn count_up(items: &mut [u32]) {
-    let mut x: u32 = 0;
-    let mut i = 0;
-    while i < items.len() {
-        items[i] = x;
-        if x >= 0xffff_ffff {
-            return;
-        }
-        x += 1;
-        i += 1;
+// A slice of the numbers 0, 1, ..
+pub fn numbers() -> [u32; 65536]
+    ensures { λ r. ⌜ 65536 ≡ length r ⌝ }
+{
+    let mut items = [0; 65536];
+    for i in 0..65536usize {
+        items[i] = (i % 0x1_0000_0000) as u32;
     }
+    items
 }

@@ -24,7 +24,9 @@ add-result : tie.Need-add-result
 add-result c = search needs
 
 returns-2 : tie.Need-returns-2
-returns-2 c = lower _ (cc) (cc)
+returns-2 c =
+    let first = c .before .before in
+    lower _ (sym (first .before .is-between .ensures) ∙ first .if1 .left) (sym (c .before .is-between2 .ensures) ∙ c .if2 .taken)
 
 is-between-requires-3 : tie.Need-is-between-requires-3
 is-between-requires-3 c κs = search needs
@@ -36,10 +38,16 @@ add-result-2 : tie.Need-add-result-2
 add-result-2 c = search needs
 
 returns-3 : tie.Need-returns-3
-returns-3 c = upper _ (cc) (cc) (cc)
+returns-3 c =
+    let second = c .before .before in
+    let first = second .before .before in
+    upper _ (sym (first .before .is-between .ensures) ∙ first .if1 .left) (sym (second .before .is-between2 .ensures) ∙ second .if2 .left) (sym (c .before .is-between3 .ensures) ∙ c .if3 .taken)
 
 returns-4 : tie.Need-returns-4
-returns-4 c = none _ (cc) (cc) (cc)
+returns-4 c =
+    let second = c .before .before in
+    let first = second .before .before in
+    none _ (sym (first .before .is-between .ensures) ∙ first .if1 .left) (sym (second .before .is-between2 .ensures) ∙ second .if2 .left) (sym (c .before .is-between3 .ensures) ∙ c .if3 .left)
 
 pub digit-spec : {M : Type 1} → statement M
 digit-spec =

@@ -1,7 +1,9 @@
 -- `parse_seed` meets its contract. Assumes nothing.
 use mathlib.Core.Path.{ap, sym, _∙_}
 use borrow.Author.Needs.{needs}
-use Rattle.command_line.proofs.HexBytes.{is-hex, bytes, number, none, none-large}
+use Rattle.command_line.proofs.HexBytes.{is-hex, bytes, number}
+use Rattle.command_line.specs.Seed.{ofNumber}
+use Rattle.command_line.specs.declared.decimal.Parsed.the-variants.{Number, NoNumber, TooLarge}
 use Rattle.command_line.specs.declared.seed.Seed.the-variants.{Generator}
 use Rattle.command_line.proofs.seed.parse_seed.Statement.{statement}
 use Rattle.command_line.proofs.seed.parse_seed.Tie as tie
@@ -18,7 +20,9 @@ from-seed-requires : tie.Need-from-seed-requires
 from-seed-requires c κs = search needs
 
 returns : tie.Need-returns
-returns c = ap Generator (c .from-seed .ensures) ∙ bytes _ _ (cc) (c .before .bytes .ensures)
+returns c =
+    let hex = c .before .before in
+    ap Generator (c .from-seed .ensures) ∙ bytes _ _ (sym (hex .before .is-hex .ensures) ∙ hex .if1 .taken) (c .before .bytes .ensures)
 
 parse-decimal-requires : tie.Need-parse-decimal-requires
 parse-decimal-requires c κs = search needs
@@ -36,13 +40,23 @@ enum-told-2 : tie.Need-enum-told-2
 enum-told-2 c = search needs
 
 returns-2 : tie.Need-returns-2
-returns-2 c = ap Generator (c .seed-from-u64 .ensures) ∙ number _ _ (cc) (cc)
+unfolding ofNumber
+returns-2 c =
+    let d = c .before .before .before .before in
+    ap Generator (c .seed-from-u64 .ensures)
+    ∙ number _ _ (Number _) (d .before .before .is-hex .ensures) (d .before .if1 .left) (sym (c .before .before .n .given .1) ∙ d .parse-decimal .ensures)
 
 returns-3 : tie.Need-returns-3
-returns-3 c = none _ (cc) (cc)
+unfolding ofNumber
+returns-3 c =
+    let d = c .before .before in
+    number _ _ NoNumber (d .before .before .is-hex .ensures) (d .before .if1 .left) (sym (c .enum-told .given .1) ∙ d .parse-decimal .ensures)
 
 returns-4 : tie.Need-returns-4
-returns-4 c = none-large _ (cc) (cc)
+unfolding ofNumber
+returns-4 c =
+    let d = c .before .before in
+    number _ _ TooLarge (d .before .before .is-hex .ensures) (d .before .if1 .left) (sym (c .enum-told2 .given .1) ∙ d .parse-decimal .ensures)
 
 pub parse-seed-spec : {M : Type 1} → statement M
 parse-seed-spec =

@@ -1,28 +1,33 @@
 -- `put_items` meets its contract. Assumes nothing.
 use mathlib.Core.Path.{_≡_}
 use Prim.Native.Nat.{_-_, _≤_}
+use native.Mathlib.Omega.{arith}
 use lib.ListN.{length}
 use borrow.Author.Needs.{needs}
+use Rattle.draw.proofs.Counting.{counts}
 use Rattle.draw.proofs.answers.put_items.Statement.{statement}
 use Rattle.draw.proofs.answers.put_items.Tie as tie
 
 abbrev Inv-loop : tie.InvT-loop
-Inv-loop block₀ used items at₀ i₀ block at i = (length block ≡ length block₀) × (at ≤ length block) × (i ≤ length items)
+Inv-loop block₀ items at₀ i₀ block at i = (length block ≡ length block₀) × (at ≤ length block) × (i ≤ length items)
 
 abbrev μ-loop : tie.MeasureT-loop
-μ-loop block₀ used items at₀ i₀ block at i = length items - i
+μ-loop block₀ items at₀ i₀ block at i = length items - i
 
 loop-holds : tie.Need-loop-holds Inv-loop μ-loop
 loop-holds c = search needs
 
-mul-put-next : tie.Need-mul-put-next Inv-loop μ-loop
-mul-put-next c = search needs
+mul-put-item : tie.Need-mul-put-item Inv-loop μ-loop
+mul-put-item c = search needs
 
-shared-slice-read-put-next : tie.Need-shared-slice-read-put-next Inv-loop μ-loop
-shared-slice-read-put-next c = search needs
+shared-slice-read-put-item : tie.Need-shared-slice-read-put-item Inv-loop μ-loop
+shared-slice-read-put-item c = search needs
 
-put-next-requires : tie.Need-put-next-requires Inv-loop μ-loop
-put-next-requires c κs = search needs
+separator-requires : tie.Need-separator-requires Inv-loop μ-loop
+separator-requires c κs = search needs
+
+put-item-requires : tie.Need-put-item-requires Inv-loop μ-loop
+put-item-requires c κs = search needs
 
 add-i : tie.Need-add-i Inv-loop μ-loop
 add-i c = search needs
@@ -37,7 +42,7 @@ same-length : tie.Need-same-length Inv-loop μ-loop
 same-length c = search needs
 
 returns : tie.Need-returns Inv-loop μ-loop
-returns c = search needs
+returns c = counts _ _ (omega arith)
 
 pub put-items-spec : {M : Type 1} → statement M
 put-items-spec =
@@ -46,9 +51,10 @@ put-items-spec =
     Inv-loop
     μ-loop
     loop-holds
-    mul-put-next
-    shared-slice-read-put-next
-    put-next-requires
+    mul-put-item
+    shared-slice-read-put-item
+    separator-requires
+    put-item-requires
     add-i
     loop-less
     loop-again

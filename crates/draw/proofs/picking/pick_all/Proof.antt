@@ -43,7 +43,7 @@ returns c =
     let c₁ = c .before .before .before in
     let c₂ = c₁ .before .before in
     let l = c₂ .before .before .loop in
-    refused _ _ _ _ _ _ (stop _ _ _ _ _ _ _ _ _ (omega arith) (l .inv .0) (c₂ .sample .result) (c₂ .sample .ensures) _ (c₁ .after .ensures) (c .before .answer2 .given .0 .0) (cc))
+    refused _ _ _ _ _ _ (stop _ _ _ _ _ _ _ _ _ (omega arith) (l .inv .0) (c₂ .sample .result) (c₂ .sample .ensures) _ (c₁ .after .ensures) (c .before .answer2 .given .0 .0) (c .before .answer2 .given .1))
 
 add-i : tie.Need-add-i Inv-loop μ-loop
 add-i c = search needs
@@ -56,7 +56,7 @@ loop-again c =
     let c₁ = c .before .before .before in
     let c₂ = c₁ .before .before in
     let l = c₂ .before .before .loop in
-    (turn _ _ _ _ _ _ _ _ _ (omega arith) (l .inv .0) (c₂ .sample .result) (c₂ .sample .ensures) _ (c₁ .after .ensures) _ (cc), l .inv .1)
+    (turn _ _ _ _ _ _ _ _ _ (omega arith) (l .inv .0) (c₂ .sample .result) (c₂ .sample .ensures) _ (c₁ .after .ensures) _ (c .before .answer .given .1), l .inv .1)
 
 same-length-2 : tie.Need-same-length-2 Inv-loop μ-loop
 same-length-2 c = search needs

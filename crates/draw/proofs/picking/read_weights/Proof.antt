@@ -15,11 +15,11 @@ abbrev μ-loop : tie.MeasureT-loop
 loop-holds : tie.Need-loop-holds Inv-loop μ-loop
 loop-holds c = search needs
 
-add-weight : tie.Need-add-weight Inv-loop μ-loop
-add-weight c = search needs
+add-number : tie.Need-add-number Inv-loop μ-loop
+add-number c = search needs
 
-weight-requires : tie.Need-weight-requires Inv-loop μ-loop
-weight-requires c κs = search needs
+number-requires : tie.Need-number-requires Inv-loop μ-loop
+number-requires c κs = search needs
 
 enum-known-w : tie.Need-enum-known-w Inv-loop μ-loop
 enum-known-w c = search needs
@@ -61,8 +61,8 @@ read-weights-spec =
     Inv-loop
     μ-loop
     loop-holds
-    add-weight
-    weight-requires
+    add-number
+    number-requires
     enum-known-w
     same-length
     returns

@@ -1,20 +1,31 @@
--- `put_same` is safe and ends. Assumes nothing.
+-- `put_hints` is safe and ends. Assumes nothing.
 use mathlib.Core.Path.{_≡_}
 use Prim.Native.Nat.{_-_, _≤_}
-use native.Mathlib.Omega.{arith}
-use lib.ListN.{length, length-set}
+use lib.ListN.{length}
 use borrow.Author.Needs.{needs}
-use Rattle.draw.proofs.choosing.put_same.Statement.{statement}
-use Rattle.draw.proofs.choosing.put_same.Tie as tie
+use Rattle.draw.proofs.choosing.put_hints.Statement.{statement}
+use Rattle.draw.proofs.choosing.put_hints.Tie as tie
 
 abbrev Inv-loop : tie.InvT-loop
-Inv-loop hint hints₀ place₀ hints place = (length hints ≡ length hints₀) × (place ≤ length hints)
+Inv-loop is-exact other hints₀ n place₀ hints place = (length hints ≡ length hints₀) × (n ≡ length hints₀) × (length hints₀ ≤ 65537)
 
 abbrev μ-loop : tie.MeasureT-loop
-μ-loop hint hints₀ place₀ hints place = length hints₀ - place
+μ-loop is-exact other hints₀ n place₀ hints place = n - place
 
 loop-holds : tie.Need-loop-holds Inv-loop μ-loop
 loop-holds c = search needs
+
+sub-remain : tie.Need-sub-remain Inv-loop μ-loop
+sub-remain c = search needs
+
+sub-remain-2 : tie.Need-sub-remain-2 Inv-loop μ-loop
+sub-remain-2 c = search needs
+
+cast-remain : tie.Need-cast-remain Inv-loop μ-loop
+cast-remain c = search needs
+
+hint-requires : tie.Need-hint-requires Inv-loop μ-loop
+hint-requires c κs = search needs
 
 mul-hints : tie.Need-mul-hints Inv-loop μ-loop
 mul-hints c = search needs
@@ -29,7 +40,7 @@ loop-less : tie.Need-loop-less Inv-loop μ-loop
 loop-less c = search needs
 
 loop-again : tie.Need-loop-again Inv-loop μ-loop
-loop-again c = (simp length-set (c .before .loop .inv .0), simp length-set (omega arith))
+loop-again c = search needs
 
 same-length : tie.Need-same-length Inv-loop μ-loop
 same-length c = search needs
@@ -37,13 +48,17 @@ same-length c = search needs
 returns : tie.Need-returns Inv-loop μ-loop
 returns c = search needs
 
-pub put-same-spec : {M : Type 1} → statement M
-put-same-spec =
+pub put-hints-spec : {M : Type 1} → statement M
+put-hints-spec =
     tie.close
     (tie.spec
     Inv-loop
     μ-loop
     loop-holds
+    sub-remain
+    sub-remain-2
+    cast-remain
+    hint-requires
     mul-hints
     slice-write-hints
     add-place
