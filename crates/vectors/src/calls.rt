@@ -59,8 +59,9 @@ enum Reading {
     Rejecting(u64, u64),
 }
 
-// A draw under a budget: its number and its value.
-fn put_draw(draw: Draw) {
+// A draw under a budget: its number, its value and its words. The generator after it is returned.
+fn put_sampled(s: Sampled) -> Xoshiro256PlusPlus {
+    let draw = s.draw;
     match draw {
         Draw::Value(v) => {
             put(0);
@@ -71,28 +72,8 @@ fn put_draw(draw: Draw) {
             put(0);
         }
     }
-}
-
-// The same with its words. The generator after it is returned.
-fn put_sampled(s: Sampled) -> Xoshiro256PlusPlus {
-    let draw = s.draw;
-    put_draw(draw);
     put(s.words);
     s.rng
-}
-
-// An output of 64 bits.
-fn output(rng: Xoshiro256PlusPlus) -> Xoshiro256PlusPlus {
-    let o = rng.next_u64();
-    put(o.value);
-    o.rng
-}
-
-// A word.
-fn word(rng: Xoshiro256PlusPlus) -> Xoshiro256PlusPlus {
-    let w = rng.next_u32();
-    put(w.value as u64);
-    w.rng
 }
 
 // A bounded draw: its value and its words.
@@ -103,24 +84,26 @@ fn bounded(rng: Xoshiro256PlusPlus, range: u64) -> Xoshiro256PlusPlus {
     d.rng
 }
 
-// A bounded draw within a budget.
-fn within(rng: Xoshiro256PlusPlus, range: u64, budget: u64) -> Xoshiro256PlusPlus {
-    put_sampled(random_range_within(rng, bound(range), 0, budget))
-}
-
-// A rejecting draw.
-fn rejecting(rng: Xoshiro256PlusPlus, range: u64, budget: u64) -> Xoshiro256PlusPlus {
-    put_sampled(UniformInt::new(bound(range)).sample(rng, 0, budget))
-}
-
 // One reading, written. The generator after it is returned.
 fn read_once(reading: Reading, rng: Xoshiro256PlusPlus) -> Xoshiro256PlusPlus {
     match reading {
-        Reading::Output => output(rng),
-        Reading::Word => word(rng),
+        Reading::Output => {
+            let o = rng.next_u64();
+            put(o.value);
+            o.rng
+        }
+        Reading::Word => {
+            let w = rng.next_u32();
+            put(w.value as u64);
+            w.rng
+        }
         Reading::Bounded(range) => bounded(rng, range),
-        Reading::Within(range, budget) => within(rng, range, budget),
-        Reading::Rejecting(range, budget) => rejecting(rng, range, budget),
+        Reading::Within(range, budget) => {
+            put_sampled(random_range_within(rng, bound(range), 0, budget))
+        }
+        Reading::Rejecting(range, budget) => {
+            put_sampled(UniformInt::new(bound(range)).sample(rng, 0, budget))
+        }
     }
 }
 
@@ -133,49 +116,23 @@ fn read_all(reading: Reading, rng: Xoshiro256PlusPlus, count: u64) {
     put_state(state);
 }
 
-// A seeding by a number.
-fn seed_from_u64(n: Numbers) {
-    put_state(Xoshiro256PlusPlus::seed_from_u64(number(n, 0)));
-}
-
-// A seeding by bytes.
-fn from_seed(n: Numbers) {
-    put_state(Xoshiro256PlusPlus::from_seed(seed(n)));
-}
-
-// Outputs or words: how many is the number after the state.
-fn read_words(n: Numbers, reading: Reading) {
-    read_all(reading, generator(n), number(n, 4));
-}
-
-// Bounded draws, after the range.
-fn draw_bounded(n: Numbers) {
-    let reading = Reading::Bounded(number(n, 4));
-    read_all(reading, generator(n), number(n, 5));
-}
-
-// Draws under a budget, after the range and the budget.
-fn draw_within(n: Numbers, reading: Reading) {
-    read_all(reading, generator(n), number(n, 6));
-}
-
 // Makes the call on a line, if it is a seeding.
 fn make_seeding(name: &[u8], n: Numbers) {
     if same(name, b"seed_from_u64") {
-        seed_from_u64(n);
+        put_state(Xoshiro256PlusPlus::seed_from_u64(number(n, 0)));
     }
     if same(name, b"from_seed") {
-        from_seed(n);
+        put_state(Xoshiro256PlusPlus::from_seed(seed(n)));
     }
 }
 
 // Makes the call on a line, if it reads words.
 fn make_words(name: &[u8], n: Numbers) {
     if same(name, b"next_u64") {
-        read_words(n, Reading::Output);
+        read_all(Reading::Output, generator(n), number(n, 4));
     }
     if same(name, b"next_u32") {
-        read_words(n, Reading::Word);
+        read_all(Reading::Word, generator(n), number(n, 4));
     }
     if same(name, b"lent_words") {
         lending::draw_words(n);
@@ -185,13 +142,15 @@ fn make_words(name: &[u8], n: Numbers) {
 // Makes the call on a line, if it draws below a bound.
 fn make_draws(name: &[u8], n: Numbers) {
     if same(name, b"random_range") {
-        draw_bounded(n);
+        read_all(Reading::Bounded(number(n, 4)), generator(n), number(n, 5));
     }
     if same(name, b"random_range_within") {
-        draw_within(n, Reading::Within(number(n, 4), number(n, 5)));
+        let reading = Reading::Within(number(n, 4), number(n, 5));
+        read_all(reading, generator(n), number(n, 6));
     }
     if same(name, b"uniform_int") {
-        draw_within(n, Reading::Rejecting(number(n, 4), number(n, 5)));
+        let reading = Reading::Rejecting(number(n, 4), number(n, 5));
+        read_all(reading, generator(n), number(n, 6));
     }
 }
 
