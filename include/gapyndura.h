@@ -44,7 +44,7 @@ uint32_t gapyndura_next_u32(uint64_t state[4], uint64_t out[2]);
  * small lengths (to 350 for 12, to 43610 for 162), else Floyd's. From 163 on: the one in place where length is below some 270
  * times the amount (37 times, from length 500000 on), else the one by rejection. The method in place needs length entries of
  * scratch, the others none. The one by rejection is the only one that could read words for ever, and the only one that heeds
- * budget, the most words that it may read. Its filter is a local array: a call may use some 70 KiB of stack.
+ * budget, the most words that it may read. Its filter is a local array: a call uses some 40 KiB of stack.
  *
  * Answers 0 where the sample is drawn, else the number of the first cause here that applies:
  *   12  all four words of state are 0: that is no generator

@@ -56,7 +56,8 @@ fn drawn(amount: u64, reading: Reading) -> IndexSample
 // leaves there all indices below `length` as it has arranged them; the other two leave `scratch` as it was.
 // Any other refusal reads no word and changes nothing: 12 for an all-zero generator, 10 for a length above 2^32 - 1, 1 for an amount above
 // the length, 8 for fewer entries of `indices` than the amount, 9 for a scratch slice that is too short, the first of these that applies.
-// Cost: amount^2 for Floyd (amounts to 162), the length in place, the amount for rejection, which holds 64 KiB of stack.
+// Cost: amount^2 for Floyd (amounts to 162), the length in place, the amount for rejection to some
+// 10,000, and amount^2 above. A call holds some 40 KiB of stack.
 pub fn sample(
     rng: Xoshiro256PlusPlus,
     length: u64,

@@ -70,11 +70,12 @@ pub(crate) fn sample_rejection(
     requires { ⌜ (0 < length) × (amount ≤ lib.ListN.length (now indices)) ⌝ }
     ensures { λ r. ⌜ ended r (now (indices .exit)) [] ≡ byRejection (foundOf length amount budget rng) (now (indices .entry)) [] ⌝ }
 {
-    // A filter that is large for the amount spares searches, and one that is small spares clearing it.
+    // A filter that is large for the amount spares searches, and one that is small spares clearing it. Neither is larger, since the compiler puts
+    // both into the frame of `sample`, whose pages every call touches: at 64 KiB that costs a small sample more than its draws.
     if amount <= 1000 {
         let mut seen = [0u64; 512];
         return find_all(rng, length, amount, budget, indices, &mut seen);
     }
-    let mut seen = [0u64; 8192];
+    let mut seen = [0u64; 4096];
     find_all(rng, length, amount, budget, indices, &mut seen)
 }

@@ -57,7 +57,7 @@ impl From<SampleError> for Refusal {
 /// - the one in place, where the length is small for the amount. It needs `length` entries of `scratch` and leaves there
 ///   all indices below `length` as it has arranged them. Entries past the length never change;
 /// - the one by rejection, for amounts from 163 on where the length is large for the amount. It stops when `budget` words
-///   are read; the other two read no budget. It may use some 70 KiB of stack.
+///   are read; the other two read no budget. A call uses some 40 KiB of stack.
 ///
 /// Only the method in place changes `scratch`.
 ///
