@@ -14,6 +14,18 @@ use uniform_int::Draw;
 use uniform_int::UniformInt;
 use xoshiro256plusplus::Xoshiro256PlusPlus;
 
+// So many indices are found, after so many words.
+fn found(outcome: Outcome, count: u32, words: u64, rng: Xoshiro256PlusPlus) -> IndexSample
+    ensures { λ r. ⌜ r ≡ record { outcome = outcome; count = count; words = words; rng = rng } ⌝ }
+{
+    IndexSample {
+        outcome: outcome,
+        count: count as u64,
+        words: words,
+        rng: rng,
+    }
+}
+
 // Draws until `amount` indices are at the front of `indices` or the budget is used up. `seen` is a filter that has seen nothing.
 fn find_all(
     rng: Xoshiro256PlusPlus,
@@ -37,12 +49,12 @@ fn find_all(
         words = s.words;
         let draw = s.draw;
         let Draw::Value(v) = draw else {
-            return IndexSample {
-                outcome: Outcome::Refused(Refusal::BudgetExhausted),
-                count: count as u64,
-                words: words,
-                rng: state,
-            };
+            return found(
+                Outcome::Refused(Refusal::BudgetExhausted),
+                count,
+                words,
+                state,
+            );
         };
         let at = count as usize;
         if is_new(indices, at, v, seen) {
@@ -50,12 +62,7 @@ fn find_all(
             count += 1;
         }
     }
-    IndexSample {
-        outcome: Outcome::Done,
-        count: count as u64,
-        words: words,
-        rng: state,
-    }
+    found(Outcome::Done, count, words, state)
 }
 
 // Puts a sample of `amount` indices below `length` at the front of `indices`; where the budget is used up before, those found so far, in

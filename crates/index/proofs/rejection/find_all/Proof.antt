@@ -42,23 +42,23 @@ enum-known-draw c = search needs
 enum-told : tie.Need-enum-told Inv-loop μ-loop
 enum-told c = search needs
 
-cast-t19 : tie.Need-cast-t19 Inv-loop μ-loop
-cast-t19 c = search needs
+found-requires : tie.Need-found-requires Inv-loop μ-loop
+found-requires c κs = search needs
 
 same-length : tie.Need-same-length Inv-loop μ-loop
-same-length c = c .before .before .before .before .before .loop .inv .1 .long
+same-length c = c .before .before .before .before .before .before .loop .inv .1 .long
 
 same-length-2 : tie.Need-same-length-2 Inv-loop μ-loop
-same-length-2 c = c .before .before .before .before .before .loop .inv .3
+same-length-2 c = c .before .before .before .before .before .before .loop .inv .3
 
 returns : tie.Need-returns Inv-loop μ-loop
 returns c =
-    let a = c .before .before .before .before .before .before .before .before .before .args in
-    let l = c .before .before .before .before .before .loop in
-    let room = c .before .before .before .before .before .before .before .before .before .pre .1 in
-    let s = c .before .before .before .sample in
+    let a = c .before .before .before .before .before .before .before .before .before .before .args in
+    let l = c .before .before .before .before .before .before .loop in
+    let room = c .before .before .before .before .before .before .before .before .before .before .pre .1 in
+    let s = c .before .before .before .before .sample in
     let e = rw (l .inv .0) at (s .ensures) in
-    spent-turn (a .length) (a .amount) (a .budget) (a .rng) (now (a .indices)) room (l .state) (l .indices) (l .words) (l .count) (l .inv .1) (omega arith) (s .result) e (c .enum-told .given .1)
+    rw (c .found .ensures) (spent-turn (a .length) (a .amount) (a .budget) (a .rng) (now (a .indices)) room (l .state) (l .indices) (l .words) (l .count) (l .inv .1) (omega arith) (s .result) e (c .before .enum-told .given .1))
 
 cast-at : tie.Need-cast-at Inv-loop μ-loop
 cast-at c = search needs
@@ -124,21 +124,21 @@ loop-again-2 c =
     let old : member (d .0 .0) (take (l .count) (l .indices)) ≡ true = not-false _ (sym (new .0) ∙ c .if1 .left) in
     (l .inv .0, dropped-turn (a .length) (a .amount) (a .budget) (a .rng) (now (a .indices)) room (l .state) (l .indices) (l .words) (l .count) (l .inv .1) (omega arith) (s .result) e (d .0 .0) (d .1) old, asked-same _ (take (l .count) (l .indices)) (d .0 .0) (new .1), search needs)
 
-cast-t28 : tie.Need-cast-t28 Inv-loop μ-loop
-cast-t28 c = search needs
+found-requires-2 : tie.Need-found-requires-2 Inv-loop μ-loop
+found-requires-2 c κs = search needs
 
 same-length-3 : tie.Need-same-length-3 Inv-loop μ-loop
-same-length-3 c = c .before .loop .inv .1 .long
+same-length-3 c = c .before .before .loop .inv .1 .long
 
 same-length-4 : tie.Need-same-length-4 Inv-loop μ-loop
-same-length-4 c = c .before .loop .inv .3
+same-length-4 c = c .before .before .loop .inv .3
 
 returns-2 : tie.Need-returns-2 Inv-loop μ-loop
 returns-2 c =
-    let a = c .before .before .before .before .before .args in
-    let l = c .before .loop in
-    let room = c .before .before .before .before .before .pre .1 in
-    sym (finish (a .length) (a .amount) (a .budget) (a .rng) (now (a .indices)) room (l .state) (l .indices) (l .words) (l .count) (l .inv .1) (omega arith))
+    let a = c .before .before .before .before .before .before .args in
+    let l = c .before .before .loop in
+    let room = c .before .before .before .before .before .before .pre .1 in
+    rw (c .found2 .ensures) (sym (finish (a .length) (a .amount) (a .budget) (a .rng) (now (a .indices)) room (l .state) (l .indices) (l .words) (l .count) (l .inv .1) (omega arith)))
 
 pub find-all-spec : {M : Type 1} → statement M
 find-all-spec =
@@ -151,7 +151,7 @@ find-all-spec =
     sample-requires
     enum-known-draw
     enum-told
-    cast-t19
+    found-requires
     same-length
     same-length-2
     returns
@@ -164,7 +164,7 @@ find-all-spec =
     loop-again
     loop-less-2
     loop-again-2
-    cast-t28
+    found-requires-2
     same-length-3
     same-length-4
     returns-2)
