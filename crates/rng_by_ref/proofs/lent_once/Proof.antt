@@ -44,7 +44,7 @@ use Rattle.xoshiro256plusplus.proofs.Xoshiro256PlusPlus.Laws as G′
 use Rattle.rng_by_ref.specs.Lending.{ended, nextOf}
 use Rattle.rng_by_ref.specs.declared.Stepped.{Stepped}
 use Rattle.rng_by_ref.specs.declared.LentWord.{LentWord}
-use Rattle.rng_by_ref.proofs.Lies.{lies-in, lies-out}
+use Rattle.rng_by_ref.proofs.LocalLent.{lies-in, lies-out}
 use Rattle.rng_by_ref.proofs.Stepped as S
 use Rattle.rng_by_ref.proofs.Stepped.Laws as S′
 use Rattle.rng_by_ref.proofs.LentWord as O

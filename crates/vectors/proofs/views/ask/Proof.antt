@@ -51,7 +51,7 @@ use Rattle.indexed_samples.specs.View.{answerOfItem, shownBy, moved}
 use Rattle.indexed_samples.specs.declared.IndexedSamples.{IndexedSamples}
 use Rattle.indexed_samples.specs.declared.Item.{Item}
 use Rattle.vectors.specs.declared.views.Asked.{Asked}
-use Rattle.vectors.proofs.LocalLent.{lies-in, lies-out}
+use Rattle.rng_by_ref.proofs.LocalLent.{lies-in, lies-out}
 use Rattle.vectors.proofs.MeetOfLifetimes.{Whole, shorter, longer, over}
 use Rattle.indexed_samples.proofs.IndexedSamples as T
 use Rattle.indexed_samples.proofs.IndexedSamples.Laws as T′

@@ -1,4 +1,4 @@
--- A value in a local's cell, as what a borrow of it holds, and back.
+-- A value in a local's cell, as what a borrow of it holds, and back: two steps of a walk, which say nothing of the crate.
 --     lies-in      the cell and what the value owns  ⊢  it lies there
 --     lies-out     it lies there  ⊢  for some machine values, the cell and what the value owns
 -- Assumes `Given`.
