@@ -1,21 +1,25 @@
 -- The definition of `sample`, one law for each of its cases.
 -- Assumes nothing.
-use mathlib.Core.Path.{_≡_, refl, ap}
+use mathlib.Core.Path.{_≡_, refl}
 use mathlib.Core.Bool.{Bool, true, false}
-use mathlib.Core.List.{List, []}
+use mathlib.Core.List.{List}
 use Prim.Native.Nat.{ℕ, _-_, _^_, _≤_, _<_}
 use native.Mathlib.Omega.{arith}
 use lib.Dec.{leb}
 use lib.ListN.{length}
 use borrow.Author.Tests.{lt-ltb, le-ltb, leb-true, leb-false}
+use Rattle.refusal.specs.Answer.{answerOf}
 use Rattle.refusal.specs.declared.Refusal.the-variants.{AmountExceedsLength, SliceTooShort, ScratchTooShort, TooLong, ZeroState}
 use Rattle.xoshiro256plusplus.specs.Generator.{zeroState}
 use Rattle.xoshiro256plusplus.specs.declared.Xoshiro256PlusPlus.{Xoshiro256PlusPlus}
 use Rattle.crossover.specs.Method.{methodOf}
 use Rattle.crossover.specs.declared.Method.the-variants.{Floyd, InPlace, Rejection}
 use Rattle.crossover.proofs.Laws.{never-rejection}
-use Rattle.index.specs.Rejection.{Found, foundOf}
-use Rattle.index.specs.Sample.{Sampling, ended, refuses, byFloyd, byInPlace, byRejection, byMethod, sampleOf}
+use Rattle.index_methods.specs.Rejection.{Found, foundOf}
+use Rattle.uniform_int.specs.declared.Reading.{Reading}
+use Rattle.index_methods.specs.Methods.{FloydSample, InPlaceSample, RejectionSample}
+use Rattle.index_methods.specs.declared.rejection.FoundIndices.{FoundIndices}
+use Rattle.index.specs.Sample.{ended, refuses, written, byFloyd, byInPlace, byRejection, byMethod, sampleOf}
 use Rattle.index.specs.declared.IndexSample.{IndexSample}
 
 -- what must be true for no refusal before the method's own
@@ -64,11 +68,24 @@ module _ (n amount budget : ℕ) (g : Xoshiro256PlusPlus) (indices scratch : Lis
     unfolding byMethod
     rejection e = rw e at by-method
 
--- rejection says nothing of the scratch slice, so that it stays
-pub scratch-stays : (f : Found) (r : IndexSample) (before after scratch : List ℕ) → ended r after [] ≡ byRejection f before [] → ended r after scratch ≡ byRejection f before scratch
+-- ---- what a method's function leaves, and the answer made of it, are the method's case of the definition
+
+module _ (n amount : ℕ) (g : Xoshiro256PlusPlus) (r : Reading) (s : IndexSample) (all : answerOf (s .outcome) (s .count) ≡ written true amount)
+    (read : s .words ≡ r .words) (after : s .rng ≡ r .rng) where
+  pub floyd-done : (before now scratch : List ℕ) → FloydSample n amount g before now r → ended s now scratch ≡ byFloyd n amount g before scratch
+  unfolding byFloyd
+  floyd-done before now scratch f = rw (all, read, after, f .indices, f .words, f .rng)
+
+  pub in-place-done : (before now scratch scratch′ : List ℕ) → InPlaceSample n amount g before now scratch scratch′ r
+      → ended s now scratch′ ≡ byInPlace n amount g before scratch
+  unfolding byInPlace
+  in-place-done before now scratch scratch′ f = rw (all, read, after, f .indices, f .scratch, f .words, f .rng)
+
+pub rejection-done : (f : Found) (r : FoundIndices) (s : IndexSample) (before now scratch : List ℕ) → RejectionSample f before now r
+    → answerOf (s .outcome) (s .count) ≡ written (r .all) (r .count) → s .words ≡ r .words → s .rng ≡ r .rng
+    → ended s now scratch ≡ byRejection f before scratch
 unfolding byRejection
-scratch-stays f r before after scratch e =
-    ap (λ (s : Sampling). record { answer = s .answer; words = s .words; rng = s .rng; indices = s .indices; scratch = scratch }) e
+rejection-done f r s before now scratch e answer read after = rw (answer, read, after, e .indices, e .count, e .all, e .words, e .rng)
 
 -- where rejection is due, there is something to draw from
 pub positive : (n amount : ℕ) → methodOf n amount ≡ Rejection → amount ≤ n → 0 < n

@@ -1,7 +1,6 @@
 -- What a sample leaves behind: the answer, the words read, the generator and both slices.
-use mathlib.Core.Path.{_≡_}
-use mathlib.Core.Bool.{Bool, true, false, cond}
-use mathlib.Core.List.{List, [], _∷_, _++_}
+use mathlib.Core.Bool.{Bool, true, cond}
+use mathlib.Core.List.{List, _++_}
 use Prim.Native.Nat.{ℕ, _-_, _^_}
 use lib.Dec.{ltb}
 use lib.ListN.{length, take, drop}
@@ -14,33 +13,11 @@ use Rattle.uniform_int.specs.Draws.{draws}
 use Rattle.crossover.specs.Method.{methodOf}
 use Rattle.crossover.specs.declared.Method.{Method}
 use Rattle.crossover.specs.declared.Method.the-variants.{Floyd, InPlace, Rejection}
-use Rattle.index.specs.Floyd.{floydOf, floydBounds}
-use Rattle.index.specs.InPlace.{swapsFrom, arranged, falling}
-use Rattle.index.specs.Rejection.{Found, foundOf}
-use Rattle.uniform_int.specs.declared.Reading.{Reading}
-use Rattle.refusal.specs.declared.Outcome.{Outcome}
+use Rattle.index_methods.specs.Floyd.{floydOf, floydBounds}
+use Rattle.index_methods.specs.InPlace.{arranged, falling}
+use Rattle.index_methods.specs.Rejection.{Found, foundOf}
 use Rattle.refusal.specs.declared.Outcome.the-variants.{Done, Refused}
 use Rattle.index.specs.declared.IndexSample.{IndexSample}
-
--- ---- what the methods' own functions promise
-
-pub record FloydSample (n amount : ℕ) (g : Xoshiro256PlusPlus) (before after : List ℕ) (r : Reading) : Type 0 where
-  pub indices : after ≡ floydOf n amount (draws (floydBounds n amount) g .values) ++ drop amount before
-  pub words : r .words ≡ draws (floydBounds n amount) g .words
-  pub rng : r .rng ≡ draws (floydBounds n amount) g .rng
-
-pub record Swapped (n amount : ℕ) (g : Xoshiro256PlusPlus) (before after : List ℕ) (r : Reading) : Type 0 where
-  pub scratch : after ≡ swapsFrom 0 before (draws (falling n amount) g .values)
-  pub words : r .words ≡ draws (falling n amount) g .words
-  pub rng : r .rng ≡ draws (falling n amount) g .rng
-
-pub record InPlaceSample (n amount : ℕ) (g : Xoshiro256PlusPlus) (before after work work′ : List ℕ) (r : Reading) : Type 0 where
-  pub indices : after ≡ take amount (arranged n (draws (falling n amount) g .values)) ++ drop amount before
-  pub scratch : work′ ≡ arranged n (draws (falling n amount) g .values) ++ drop n work
-  pub words : r .words ≡ draws (falling n amount) g .words
-  pub rng : r .rng ≡ draws (falling n amount) g .rng
-
--- ---- the call
 
 -- all that can be seen after the call; the answer's value is the count of indices written
 pub record Sampling : Type 0 where
@@ -57,11 +34,15 @@ ended r indices scratch = record { answer = answerOf (r .outcome) (r .count); wo
 unfoldable pub refuses : Refusal → Xoshiro256PlusPlus → List ℕ → List ℕ → Sampling
 refuses r g indices scratch = record { answer = answerOf (Refused r) 0; words = 0; rng = g; indices = indices; scratch = scratch }
 
+-- so many indices are written: all that were wanted, or those found when the budget ran out
+abbrev pub written : (all : Bool) (count : ℕ) → Answer
+written all count = answerOf (cond all Done (Refused BudgetExhausted)) count
+
 -- Floyd's method: the scratch slice stays as it was
 unfoldable pub byFloyd : (n amount : ℕ) → Xoshiro256PlusPlus → List ℕ → List ℕ → Sampling
 byFloyd n amount g indices scratch =
     record {
-      answer = answerOf Done amount;
+      answer = written true amount;
       words = draws (floydBounds n amount) g .words;
       rng = draws (floydBounds n amount) g .rng;
       indices = floydOf n amount (draws (floydBounds n amount) g .values) ++ drop amount indices;
@@ -72,7 +53,7 @@ byFloyd n amount g indices scratch =
 unfoldable pub byInPlace : (n amount : ℕ) → Xoshiro256PlusPlus → List ℕ → List ℕ → Sampling
 byInPlace n amount g indices scratch =
     record {
-      answer = answerOf Done amount;
+      answer = written true amount;
       words = draws (falling n amount) g .words;
       rng = draws (falling n amount) g .rng;
       indices = take amount (arranged n (draws (falling n amount) g .values)) ++ drop amount indices;
@@ -83,7 +64,7 @@ byInPlace n amount g indices scratch =
 unfoldable pub byRejection : Found → List ℕ → List ℕ → Sampling
 byRejection f indices scratch =
     record {
-      answer = answerOf (cond (f .all) Done (Refused BudgetExhausted)) (length (f .indices));
+      answer = written (f .all) (length (f .indices));
       words = f .words;
       rng = f .rng;
       indices = f .indices ++ drop (length (f .indices)) indices;

@@ -1,20 +1,20 @@
-// Samples of distinct indices, as in rand's `index.rs`.
+// Samples of distinct indices, as in rand's `index.rs`: the call. Its three methods are in crate `index_methods`.
+ghost use mathlib.Core.Bool.{true};
+ghost use mathlib.Core.List.{List};
 ghost use mathlib.Core.Path.{_≡_};
-ghost use Rattle.index.specs.Sample.{ended, sampleOf};
+ghost use Prim.Native.Nat.{ℕ};
+ghost use Rattle.refusal.specs.Answer.{answerOf};
+ghost use Rattle.index.specs.Sample.{ended, refuses, written, sampleOf};
 use crossover::Method;
 use crossover::choose_method;
-use floyd::sample_floyd;
-use in_place::sample_inplace;
+use index_methods::floyd::sample_floyd;
+use index_methods::in_place::sample_inplace;
+use index_methods::rejection::FoundIndices;
+use index_methods::rejection::sample_rejection;
 use refusal::Outcome;
 use refusal::Refusal;
-use rejection::sample_rejection;
 use uniform_int::Reading;
 use xoshiro256plusplus::Xoshiro256PlusPlus;
-
-mod floyd;
-mod in_place;
-mod rejection;
-mod seen;
 
 // The outcome, the count of indices written, the words read, and the generator after them.
 pub struct IndexSample {
@@ -24,9 +24,9 @@ pub struct IndexSample {
     pub rng: Xoshiro256PlusPlus,
 }
 
-// A refusal that has read nothing and written nothing.
+// A refusal that has read nothing and written nothing: the definition `refuses`, whatever the slices hold.
 pub fn refused(why: Refusal, rng: Xoshiro256PlusPlus) -> IndexSample
-    ensures { λ r. ⌜ r ≡ record { outcome = Outcome.Refused why; count = 0; words = 0; rng = rng } ⌝ }
+    ensures { λ r. ⌜ ((indices : List ℕ) → (scratch : List ℕ) → ended r indices scratch ≡ refuses why rng indices scratch) ⌝ }
 {
     IndexSample {
         outcome: Outcome::Refused(why),
@@ -38,13 +38,35 @@ pub fn refused(why: Refusal, rng: Xoshiro256PlusPlus) -> IndexSample
 
 // All `amount` indices are drawn.
 fn drawn(amount: u64, reading: Reading) -> IndexSample
-    ensures { λ r. ⌜ r ≡ record { outcome = Outcome.Done; count = amount; words = reading .words; rng = reading .rng } ⌝ }
+    ensures { λ r. ⌜ (answerOf (r .outcome) (r .count) ≡ written true amount) × (r .words ≡ reading .words) × (r .rng ≡ reading .rng) ⌝ }
 {
     let rng = reading.rng;
     IndexSample {
         outcome: Outcome::Done,
         count: amount,
         words: reading.words,
+        rng: rng,
+    }
+}
+
+// What rejection has found; where that is not all, the budget was used up.
+fn found(f: FoundIndices) -> IndexSample
+    ensures { λ r. ⌜ (answerOf (r .outcome) (r .count) ≡ written (f .all) (f .count)) × (r .words ≡ f .words) × (r .rng ≡ f .rng) ⌝ }
+{
+    let rng = f.rng;
+    let count = f.count as u64;
+    if f.all {
+        return IndexSample {
+            outcome: Outcome::Done,
+            count: count,
+            words: f.words,
+            rng: rng,
+        };
+    }
+    IndexSample {
+        outcome: Outcome::Refused(Refusal::BudgetExhausted),
+        count: count,
+        words: f.words,
         rng: rng,
     }
 }
@@ -90,6 +112,6 @@ pub fn sample(
             }
             drawn(amount, sample_inplace(rng, n, k, indices, scratch))
         }
-        Method::Rejection => sample_rejection(rng, n, k, budget, indices),
+        Method::Rejection => found(sample_rejection(rng, n, k, budget, indices)),
     }
 }

@@ -29,14 +29,14 @@ use Rattle.uniform_int.proofs.Scaling.{upper-lt}
 use Rattle.crossover.specs.Method.{methodOf}
 use Rattle.crossover.specs.declared.Method.{Method}
 use Rattle.crossover.specs.declared.Method.the-variants.{Floyd, InPlace, Rejection}
-use Rattle.index.specs.Floyd.{floydOf, floydBounds}
-use Rattle.index.specs.InPlace.{arranged, falling}
-use Rattle.index.specs.Rejection.{Found, foundOf, acceptedOf}
+use Rattle.index_methods.specs.Floyd.{floydOf, floydBounds}
+use Rattle.index_methods.specs.InPlace.{arranged, falling}
+use Rattle.index_methods.specs.Rejection.{Found, foundOf, acceptedOf}
 use Rattle.index.specs.Sample.{Sampling, refuses, byFloyd, byInPlace, byRejection, sampleOf}
-use Rattle.index.specs.Shares.{SampleOf}
+use Rattle.index_shares.specs.Shares.{SampleOf}
 use Rattle.index.proofs.Cases.{Fit, slice-short, floyd, scratch-short, in-place, rejection, positive}
-use Rattle.index.proofs.InPlaceTurns.{falling-positive}
-use Rattle.index.proofs.Shares.{index-shares}
+use Rattle.index_methods.proofs.InPlaceTurns.{falling-positive}
+use Rattle.index_shares.proofs.Shares.{index-shares}
 use Rattle.indexed_samples.specs.View.{drawnOf, viewSampleOf, ViewDraws}
 use Rattle.indexed_samples.proofs.View.{some, zero-state, too-long, sampled, all-drawn}
 

@@ -12,7 +12,7 @@ use Rattle.refusal.specs.declared.Refusal.the-variants.{AmountExceedsLength, To
 use Rattle.xoshiro256plusplus.specs.Generator.{zeroState}
 use Rattle.xoshiro256plusplus.specs.declared.Xoshiro256PlusPlus.{Xoshiro256PlusPlus}
 use Rattle.index.specs.Sample.{Sampling, ended, refuses, sampleOf}
-use Rattle.index.specs.Shares.{SampleOf}
+use Rattle.index_shares.specs.Shares.{SampleOf}
 use Rattle.parts.specs.Parts.{Lent}
 use Rattle.indexed_samples.specs.declared.Item.{Item}
 use Rattle.indexed_samples.specs.declared.Item.the-variants.{Some, None}

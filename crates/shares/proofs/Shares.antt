@@ -7,7 +7,7 @@ use native.Mathlib.Omega.{arith}
 use lib.ListN.{length}
 use Rattle.counting.specs.Lists.{Distinct}
 use Rattle.uniform_int.proofs.Shares.{draw-shares-32}
-use Rattle.index.proofs.Shares.{index-shares}
+use Rattle.index_shares.proofs.Shares.{index-shares}
 use Rattle.slice.specs.Shuffle.{shuffleShare}
 use Rattle.slice.specs.Shares.{OrderedTail}
 use Rattle.slice.proofs.Shares.{shuffle-shares}

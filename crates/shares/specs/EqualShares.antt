@@ -9,10 +9,10 @@ use lib.ListN.{length, take, drop, getD, replicate}
 use Rattle.counting.specs.Count.{countLists, factorial}
 use Rattle.counting.specs.Lists.{same, sameSet, Distinct}
 use Rattle.uniform_int.specs.Shares.{boundedShare}
-use Rattle.index.specs.Floyd.{floydOf, floydBounds}
-use Rattle.index.specs.InPlace.{arranged, falling}
-use Rattle.index.specs.Rejection.{rejectionOf, gives}
-use Rattle.index.specs.Shares.{SampleOf}
+use Rattle.index_methods.specs.Floyd.{floydOf, floydBounds}
+use Rattle.index_methods.specs.InPlace.{arranged, falling}
+use Rattle.index_methods.specs.Rejection.{rejectionOf, gives}
+use Rattle.index_shares.specs.Shares.{SampleOf}
 use Rattle.slice.specs.Shuffle.{shuffleOf, shuffleBounds}
 use Rattle.slice.specs.Shares.{OrderedTail}
 use Rattle.iterator.specs.Reservoir.{fillOf, fillBounds}

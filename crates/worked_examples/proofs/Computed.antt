@@ -3,7 +3,7 @@
 use mathlib.Core.Path.{refl}
 use Rattle.uniform_int.specs.Bounded.{boundedValue, readsTwo}
 use Rattle.uniform_int.specs.Rejecting.{accepts, scaled}
-use Rattle.index.specs.Floyd.{replaced, floydFrom, floydOf}
+use Rattle.index_methods.specs.Floyd.{replaced, floydFrom, floydOf}
 use Rattle.increasing_uniform.specs.Chunks.{factors, moreFrom, moreOf, handed, indicesOf}
 use Rattle.slice.specs.Shuffle.{shuffleFrom, shuffleOf}
 use Rattle.weighted_index.specs.Weights.{total, sumsFrom, firstAbove}

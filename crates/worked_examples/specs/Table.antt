@@ -8,7 +8,7 @@ use Rattle.counting.specs.Count.{oneIf}
 use Rattle.counting.specs.Lists.{same}
 use Rattle.uniform_int.specs.Bounded.{boundedValue, readsTwo}
 use Rattle.uniform_int.specs.Rejecting.{accepts, scaled}
-use Rattle.index.specs.Floyd.{floydOf}
+use Rattle.index_methods.specs.Floyd.{floydOf}
 use Rattle.increasing_uniform.specs.Chunks.{factors, moreOf}
 use Rattle.slice.specs.Shuffle.{shuffleOf}
 use Rattle.weighted_index.specs.Weights.{total, sumsFrom, firstAbove}

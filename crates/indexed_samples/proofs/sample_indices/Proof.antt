@@ -3,7 +3,6 @@ use mathlib.Core.Path.{sym, _∙_}
 use native.Mathlib.Omega.{arith}
 use lib.ListN.{length}
 use denote.Ref.{now}
-use Rattle.index.specs.Sample.{refuses}
 use Rattle.indexed_samples.proofs.View.{zero-state, too-long, as-sampled}
 use borrow.Author.Needs.{needs}
 use Rattle.indexed_samples.proofs.sample_indices.Statement.{statement}
@@ -16,21 +15,19 @@ refused-requires : tie.Need-refused-requires
 refused-requires c κs = search needs
 
 returns : tie.Need-returns
-unfolding refuses
 returns c =
     let a = c .before .before .before .before .before .before .args in
     let zero = sym (c .before .before .is-zero .ensures) ∙ c .before .if1 .taken in
-    rw (c .refused .ensures) (sym (zero-state (length (now (a .items))) (a .amount) (a .budget) (a .rng) (now (a .indices)) (now (a .scratch)) zero))
+    c .refused .ensures _ _ ∙ sym (zero-state (length (now (a .items))) (a .amount) (a .budget) (a .rng) (now (a .indices)) (now (a .scratch)) zero)
 
 refused-requires-2 : tie.Need-refused-requires-2
 refused-requires-2 c κs = search needs
 
 returns-2 : tie.Need-returns-2
-unfolding refuses
 returns-2 c =
     let a = c .before .before .before .before .before .before .before .args in
     let alive = sym (c .before .before .before .is-zero .ensures) ∙ c .before .before .if1 .left in
-    rw (c .refused2 .ensures) (sym (too-long (length (now (a .items))) (a .amount) (a .budget) (a .rng) (now (a .indices)) (now (a .scratch)) alive (omega arith)))
+    c .refused2 .ensures _ _ ∙ sym (too-long (length (now (a .items))) (a .amount) (a .budget) (a .rng) (now (a .indices)) (now (a .scratch)) alive (omega arith))
 
 clipped-requires : tie.Need-clipped-requires
 clipped-requires c κs = search needs

@@ -1,0 +1,26 @@
+-- The indices in place: how many they are, and what exchanges keep.
+-- Assumes nothing.
+use mathlib.Core.Path.{_≡_, refl, _∙_}
+use mathlib.Core.List.{List, [], _∷_}
+use Prim.Native.Nat.{ℕ, zero, suc, _+_, _-_, _≤_}
+use native.Mathlib.Omega.{arith}
+use lib.ListN.{length, length-append}
+use Rattle.counting.specs.Lists.{howMany, swapAt, Within}
+use Rattle.counting.proofs.Many.{many-swap, length-swap}
+use Rattle.index_methods.specs.InPlace.{upTo, swapsFrom, falling}
+
+pub length-upTo : (n : ℕ) → length (upTo n) ≡ n
+unfolding upTo
+length-upTo zero = refl
+length-upTo (suc n) = omega (arith, length-append (upTo n) (n ∷ []), length-upTo n)
+
+-- swaps keep the length, and how often each number stands there
+pub swaps-keep : (m i n a : ℕ) (l ds : List ℕ) → i + n ≡ length l → m ≤ n → Within ds (falling n m)
+    → (length (swapsFrom i l ds) ≡ length l) × (howMany a (swapsFrom i l ds) ≡ howMany a l)
+unfolding swapsFrom falling
+swaps-keep zero i n a l [] e le w = (refl, refl)
+swaps-keep (suc m) i n a l (d ∷ ds) e le w =
+    let size = length-swap i (i + d) l in
+    let many = many-swap a i (i + d) l (omega (arith, w .0)) (omega (arith, w .0)) in
+    let rest = swaps-keep m (suc i) (n - 1) a (swapAt i (i + d) l) ds (omega (arith, w .0)) (omega arith) (w .1) in
+    (rest .0 ∙ size, rest .1 ∙ many)

@@ -1,0 +1,6 @@
+pub mod Replaced
+pub mod Exchanges
+pub mod FloydTurns
+pub mod InPlaceTurns
+pub mod SeenBits
+pub mod RejectionTurns

@@ -1,0 +1,162 @@
+-- `find_all` meets its contract. The invariant is `Turn`, and the filter has seen what is found. Assumes nothing.
+use mathlib.Core.Path.{_≡_, refl, sym, _∙_}
+use mathlib.Core.Bool.{true, false}
+use mathlib.Core.List.{[], _∷_, _++_}
+use Prim.Native.Nat.{_+_, _-_, _%_, _^_}
+use native.Mathlib.Omega.{arith}
+use native.Mathlib.Numerals.{add-one}
+use denote.Ref.{now}
+use lib.ListN.{take, drop, set, length-set}
+use lib.Seq.{take-suc-set}
+use borrow.Author.Tests.{not-true, not-false}
+use Rattle.counting.specs.Lists.{member}
+use Rattle.index_methods.specs.Seen.{Asked}
+use Rattle.index_methods.proofs.RejectionTurns.{Turn, begin, finish, words-fall, spent-turn, dropped-turn, kept-turn}
+use Rattle.index_methods.proofs.SeenBits.{asked-grown, asked-same}
+use borrow.Author.Needs.{needs}
+use Rattle.index_methods.proofs.rejection.find_all.Statement.{statement}
+use Rattle.index_methods.proofs.rejection.find_all.Tie as tie
+
+abbrev Inv-loop : tie.InvT-loop
+Inv-loop length amount budget indices₀ seen₀ uniform state₀ words₀ count₀ indices seen state words count =
+    (uniform ≡ record { range = length; thresh = 2 ^ 32 % length }) × Turn length amount budget state₀ indices₀ state indices words count
+    × Asked seen (take count indices) × (lib.ListN.length seen ≡ lib.ListN.length seen₀)
+
+abbrev μ-loop : tie.MeasureT-loop
+μ-loop length amount budget indices₀ seen₀ uniform state₀ words₀ count₀ indices seen state words count = budget - words
+
+new-requires : tie.Need-new-requires Inv-loop μ-loop
+new-requires c κs = search needs
+
+loop-holds : tie.Need-loop-holds Inv-loop μ-loop
+loop-holds c =
+    let a = c .before .before .before .args in
+    (c .new .ensures, begin (a .length) (a .amount) (a .budget) (a .rng) (now (a .indices)) (c .before .before .before .pre .1), c .before .before .before .pre .2, refl)
+
+sample-requires : tie.Need-sample-requires Inv-loop μ-loop
+sample-requires c κs = search needs
+
+enum-known-draw : tie.Need-enum-known-draw Inv-loop μ-loop
+enum-known-draw c = search needs
+
+enum-told : tie.Need-enum-told Inv-loop μ-loop
+enum-told c = search needs
+
+same-length : tie.Need-same-length Inv-loop μ-loop
+same-length c = c .before .before .before .before .before .loop .inv .1 .long
+
+same-length-2 : tie.Need-same-length-2 Inv-loop μ-loop
+same-length-2 c = c .before .before .before .before .before .loop .inv .3
+
+returns : tie.Need-returns Inv-loop μ-loop
+returns c =
+    let a = c .before .before .before .before .before .before .before .before .before .args in
+    let l = c .before .before .before .before .before .loop in
+    let room = c .before .before .before .before .before .before .before .before .before .pre .1 in
+    let s = c .before .before .before .sample in
+    let e = rw (l .inv .0) at (s .ensures) in
+    spent-turn (a .length) (a .amount) (a .budget) (a .rng) (now (a .indices)) room (l .state) (l .indices) (l .words) (l .count) (l .inv .1) (omega arith) (s .result) e (c .enum-told .given .1)
+
+cast-at : tie.Need-cast-at Inv-loop μ-loop
+cast-at c = search needs
+
+is-new-requires : tie.Need-is-new-requires Inv-loop μ-loop
+is-new-requires c κs =
+    let l = c .before .before .before .before .before .before .before .before .loop in
+    (omega (arith, l .inv .1 .long), l .inv .2)
+
+mul-indices : tie.Need-mul-indices Inv-loop μ-loop
+mul-indices c = omega (arith, c .before .before .before .before .before .before .before .before .before .before .before .before .loop .inv .1 .long)
+
+slice-write-indices : tie.Need-slice-write-indices Inv-loop μ-loop
+slice-write-indices c = omega (arith, c .before .before .before .before .before .before .before .before .before .before .before .before .loop .inv .1 .long)
+
+add-count : tie.Need-add-count Inv-loop μ-loop
+add-count c = search needs
+
+loop-less : tie.Need-loop-less Inv-loop μ-loop
+loop-less c =
+    let a = c .before .before .before .before .before .before .before .before .before .before .before .before .before .before .before .before .args in
+    let l = c .before .before .before .before .before .before .before .before .before .before .before .before .loop in
+    let room = c .before .before .before .before .before .before .before .before .before .before .before .before .before .before .before .before .pre .1 in
+    let s = c .before .before .before .before .before .before .before .before .before .before .sample in
+    let e = rw (l .inv .0) at (s .ensures) in
+    let d = c .before .before .before .before .before .before .before .draw .given in
+    omega (arith, words-fall (a .length) (a .amount) (a .budget) (a .rng) (now (a .indices)) room (l .state) (l .indices) (l .words) (l .count) (l .inv .1) (omega arith) (s .result) e (d .0 .0) (d .1))
+
+loop-again : tie.Need-loop-again Inv-loop μ-loop
+loop-again c =
+    let a = c .before .before .before .before .before .before .before .before .before .before .before .before .before .before .before .before .args in
+    let l = c .before .before .before .before .before .before .before .before .before .before .before .before .loop in
+    let room = c .before .before .before .before .before .before .before .before .before .before .before .before .before .before .before .before .pre .1 in
+    let s = c .before .before .before .before .before .before .before .before .before .before .sample in
+    let e = rw (l .inv .0) at (s .ensures) in
+    let d = c .before .before .before .before .before .before .before .draw .given in
+    let new = c .before .before .before .is-new .ensures in
+    let long = l .inv .1 .long in
+    let fresh : member (d .0 .0) (take (l .count) (l .indices)) ≡ false = not-true _ (sym (new .0) ∙ c .if1 .taken) in
+    let front : take (l .count + 1) (set (l .indices) (l .count) (d .0 .0)) ≡ take (l .count) (l .indices) ++ (d .0 .0 ∷ []) =
+    rw (add-one (l .count)) (take-suc-set (l .indices) (l .count) (d .0 .0) (omega arith)) in
+    (l .inv .0, kept-turn (a .length) (a .amount) (a .budget) (a .rng) (now (a .indices)) room (l .state) (l .indices) (l .words) (l .count) (l .inv .1) (omega arith) (s .result) e (d .0 .0) (d .1) fresh, rw front (asked-grown _ (take (l .count) (l .indices)) (d .0 .0) (new .1)), search needs)
+
+loop-less-2 : tie.Need-loop-less-2 Inv-loop μ-loop
+loop-less-2 c =
+    let a = c .before .before .before .before .before .before .before .before .before .before .before .before .before .before .before .before .args in
+    let l = c .before .before .before .before .before .before .before .before .before .before .before .before .loop in
+    let room = c .before .before .before .before .before .before .before .before .before .before .before .before .before .before .before .before .pre .1 in
+    let s = c .before .before .before .before .before .before .before .before .before .before .sample in
+    let e = rw (l .inv .0) at (s .ensures) in
+    let d = c .before .before .before .before .before .before .before .draw .given in
+    omega (arith, words-fall (a .length) (a .amount) (a .budget) (a .rng) (now (a .indices)) room (l .state) (l .indices) (l .words) (l .count) (l .inv .1) (omega arith) (s .result) e (d .0 .0) (d .1))
+
+loop-again-2 : tie.Need-loop-again-2 Inv-loop μ-loop
+loop-again-2 c =
+    let a = c .before .before .before .before .before .before .before .before .before .before .before .before .before .before .before .before .args in
+    let l = c .before .before .before .before .before .before .before .before .before .before .before .before .loop in
+    let room = c .before .before .before .before .before .before .before .before .before .before .before .before .before .before .before .before .pre .1 in
+    let s = c .before .before .before .before .before .before .before .before .before .before .sample in
+    let e = rw (l .inv .0) at (s .ensures) in
+    let d = c .before .before .before .before .before .before .before .draw .given in
+    let new = c .before .before .before .is-new .ensures in
+    let old : member (d .0 .0) (take (l .count) (l .indices)) ≡ true = not-false _ (sym (new .0) ∙ c .if1 .left) in
+    (l .inv .0, dropped-turn (a .length) (a .amount) (a .budget) (a .rng) (now (a .indices)) room (l .state) (l .indices) (l .words) (l .count) (l .inv .1) (omega arith) (s .result) e (d .0 .0) (d .1) old, asked-same _ (take (l .count) (l .indices)) (d .0 .0) (new .1), search needs)
+
+same-length-3 : tie.Need-same-length-3 Inv-loop μ-loop
+same-length-3 c = c .before .loop .inv .1 .long
+
+same-length-4 : tie.Need-same-length-4 Inv-loop μ-loop
+same-length-4 c = c .before .loop .inv .3
+
+returns-2 : tie.Need-returns-2 Inv-loop μ-loop
+returns-2 c =
+    let a = c .before .before .before .before .before .args in
+    let l = c .before .loop in
+    let room = c .before .before .before .before .before .pre .1 in
+    finish (a .length) (a .amount) (a .budget) (a .rng) (now (a .indices)) room (l .state) (l .indices) (l .words) (l .count) (l .inv .1) (omega arith)
+
+pub find-all-spec : {M : Type 1} → statement M
+find-all-spec =
+    tie.close
+    (tie.spec
+    Inv-loop
+    μ-loop
+    new-requires
+    loop-holds
+    sample-requires
+    enum-known-draw
+    enum-told
+    same-length
+    same-length-2
+    returns
+    cast-at
+    is-new-requires
+    mul-indices
+    slice-write-indices
+    add-count
+    loop-less
+    loop-again
+    loop-less-2
+    loop-again-2
+    same-length-3
+    same-length-4
+    returns-2)

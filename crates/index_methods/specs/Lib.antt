@@ -1,0 +1,5 @@
+pub mod Floyd
+pub mod InPlace
+pub mod Rejection
+pub mod Seen
+pub mod Methods
