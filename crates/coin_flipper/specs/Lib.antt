@@ -1,3 +1,4 @@
 pub mod Coins
 pub mod Within
 pub mod State
+pub mod OneOver

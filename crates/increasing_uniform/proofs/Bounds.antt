@@ -7,9 +7,9 @@ use Prim.Native.Nat.{ℕ, zero, suc, _+_, _-_, _*_, _^_, _≤_, _<_}
 use native.Mathlib.Nat.{mul-one, mul-assoc, mul-le-mul, mul-le-mul-left, mul-le-mul-right}
 use native.Mathlib.Omega.{arith}
 use lib.Dec.{leb, ltb, lit<, lit≤}
-use borrow.Author.Tests.{leb-true, leb-false, ltb-true, ltb-false}
+use borrow.Author.Tests.{lt-leb, leb-true, leb-false, ltb-true, ltb-false}
 use Rattle.increasing_uniform.specs.Chunks.{factors, moreFrom, moreOf}
-use Rattle.increasing_uniform.specs.Bound.{ChunkBound}
+use Rattle.increasing_uniform.specs.Bound.{ChunkBound, ChunkSizes}
 use Rattle.increasing_uniform.proofs.ChunkShares.{factors-pos}
 
 -- ---- products of neighbours
@@ -140,3 +140,36 @@ module _ (m p k : ℕ) (pos : 0 < m) (s : Product m p k) where
 pub chunk-bound-2 : ChunkBound 2 479001600 11
 unfolding factors moreOf moreFrom
 chunk-bound-2 = record { factors-of = refl; number = refl; within = lit≤ tt; no-more = lit< tt }
+
+-- ---- how many factors there are
+
+-- 13 of them from 1 on do not fit
+past : factors 1 13 ≤ 2 ^ 32 - 1 → ⊥
+unfolding factors
+past h = omega arith
+
+-- where m itself does not fit, there is no second
+none : (m : ℕ) → 2 ^ 32 - 1 < m → suc (moreOf m) ≤ 12
+unfolding moreOf moreFrom
+none m h =
+    let wide : 1 * suc m ≤ m * suc m = mul-le-mul-right (suc m) (omega arith) in
+    rw (lt-leb (m * suc m) (2 ^ 32 - 1) (omega arith), moreFrom) (omega arith)
+
+most : (m : ℕ) → 0 < m → suc (moreOf m) ≤ 12
+most m pos = go (leb m (2 ^ 32 - 1)) (leb (suc (moreOf m)) 12) refl refl
+  where
+    few : 2 ^ 32 - 1 < m → suc (moreOf m) ≤ 12
+    few = none m
+
+    go : (a b : Bool) → leb m (2 ^ 32 - 1) ≡ a → leb (suc (moreOf m)) 12 ≡ b → suc (moreOf m) ≤ 12
+    go a true p q = leb-true (suc (moreOf m)) 12 q
+    go false false p q = few (leb-false m (2 ^ 32 - 1) p)
+    go true false p q =
+        let fits = leb-true m (2 ^ 32 - 1) p in
+        let low : factors 1 13 ≤ factors m 13 = from-higher 1 m 13 pos in
+        let more : factors m 13 ≤ factors m (suc (moreOf m)) = with-more m 13 (suc (moreOf m)) pos (omega (arith, leb-false (suc (moreOf m)) 12 q)) in
+        absurd (past (omega (arith, low, more, within m pos fits)))
+
+pub chunk-sizes : ChunkSizes
+unfolding moreOf moreFrom
+chunk-sizes = record { twelve = refl; eleven = refl; most = most }

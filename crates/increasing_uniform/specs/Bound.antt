@@ -9,3 +9,10 @@ pub record ChunkBound (m bound size : ℕ) : Type 0 where
   -- the bound stays within, and one factor more would not
   pub within : bound ≤ 2 ^ 32 - 1
   pub no-more : 2 ^ 32 - 1 < factors m (suc size)
+
+-- The comment in the Rust promises up to 13 factors; these are what the arithmetic gives.
+pub record ChunkSizes : Type 0 where
+  pub twelve : suc (moreOf 1) ≡ 12
+  pub eleven : suc (moreOf 2) ≡ 11
+  -- never more than 12
+  pub most : (m : ℕ) → 0 < m → suc (moreOf m) ≤ 12

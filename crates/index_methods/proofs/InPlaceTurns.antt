@@ -13,7 +13,8 @@ use Rattle.counting.proofs.Many.{length-swap}
 use Rattle.xoshiro256plusplus.specs.declared.Xoshiro256PlusPlus.{Xoshiro256PlusPlus}
 use Rattle.uniform_int.specs.Bounded.{bounded}
 use Rattle.uniform_int.specs.Draws.{Draws, draws, before}
-use Rattle.uniform_int.proofs.Laws.{Positive, words-le, draws-cons}
+use Rattle.uniform_int.specs.Reads.{Positive}
+use Rattle.uniform_int.proofs.Laws.{words-le, draws-cons}
 use Rattle.index_methods.specs.InPlace.{upTo, swapsFrom, arranged, falling}
 use Rattle.index_methods.proofs.Exchanges.{length-upTo, swaps-keep}
 

@@ -4,3 +4,4 @@ pub mod FloydTurns
 pub mod InPlaceTurns
 pub mod SeenBits
 pub mod RejectionTurns
+pub mod FoundWords

@@ -16,6 +16,7 @@ use Rattle.uniform_int.specs.Rejecting.{Drawing, found, spent, answerOf, shown,
 use Rattle.uniform_int.specs.declared.Draw.{Draw}
 use Rattle.uniform_int.specs.declared.Draw.the-variants.{Value, Spent}
 use Rattle.uniform_int.specs.declared.Sampled.{Sampled}
+use Rattle.uniform_int.proofs.Laws.{rejecting-most, rejecting-more}
 use Rattle.index_methods.specs.Rejection.{Found, foundFrom, foundOf}
 use Rattle.index_methods.specs.Methods.{RejectionSample}
 
@@ -61,28 +62,6 @@ module _ (r w : ℕ) (held : List ℕ) where
           ]) e
       go false ih = let e : n + suc k ≡ suc n + k = omega arith in rw e at ih
 
--- a draw reads no more words than are left, and at least one for a value
-pub words-most : (r n : ℕ) (g : Xoshiro256PlusPlus) (k : ℕ) → draw r n g k .words ≤ n + k
-unfolding rejectingAt
-words-most r zero g k = omega arith
-words-most r (suc n) g k = go (accepts (2 ^ 32) r (2 ^ 32 % r) (word g)) (words-most r n (advance g) (suc k))
-  where
-    go : (b : Bool) → draw r n (advance g) (suc k) .words ≤ n + suc k
-        → (let d : Drawing = elim b [ true ↦ found (scaled (2 ^ 32) r (word g)) (suc k) (advance g) | false ↦ draw r n (advance g) (suc k) ] in d .words) ≤ suc n + k
-    go true h = omega arith
-    go false h = omega arith
-
-pub words-more : (r n : ℕ) (g : Xoshiro256PlusPlus) (k v : ℕ) → draw r n g k .answer .values ≡ v ∷ [] → k < draw r n g k .words
-unfolding rejectingAt
-words-more r zero g k v e = let z : _≡_ {A = ℕ} 0 1 = cc in absurd (omega arith)
-words-more r (suc n) g k v e = go (accepts (2 ^ 32) r (2 ^ 32 % r) (word g)) (words-more r n (advance g) (suc k) v) e
-  where
-    go : (b : Bool) → (draw r n (advance g) (suc k) .answer .values ≡ v ∷ [] → suc k < draw r n (advance g) (suc k) .words)
-        → (let d : Drawing = elim b [ true ↦ found (scaled (2 ^ 32) r (word g)) (suc k) (advance g) | false ↦ draw r n (advance g) (suc k) ] in d .answer .values) ≡ v ∷ []
-        → k < (let d : Drawing = elim b [ true ↦ found (scaled (2 ^ 32) r (word g)) (suc k) (advance g) | false ↦ draw r n (advance g) (suc k) ] in d .words)
-    go true ih e = omega arith
-    go false ih e = omega (arith, ih e)
-
 -- with `words` read and `count` indices found: what is left to do gives the whole
 pub record Turn (r amount budget : ℕ) (g₀ : Xoshiro256PlusPlus) (l₀ : List ℕ) (g : Xoshiro256PlusPlus) (l : List ℕ) (words count : ℕ) : Type 0 where
   pub upto : count ≤ amount
@@ -123,10 +102,10 @@ module _ (r amount budget : ℕ) (g₀ : Xoshiro256PlusPlus) (l₀ : List ℕ) (
           ∙ ap (λ (x : ℕ). follows r (amount - (count + 1)) (take count l) x (d .answer .values) (d .words) (d .rng)) n
 
       at-most : d .words ≤ budget
-      at-most = omega (arith, s .few, words-most r (budget - words) g words)
+      at-most = omega (arith, s .few, rejecting-most (2 ^ 32) word r (2 ^ 32 % r) (budget - words) g words)
 
       at-least : (v : ℕ) → d .answer .values ≡ v ∷ [] → words < d .words
-      at-least v q = words-more r (budget - words) g words v q
+      at-least v q = rejecting-more (2 ^ 32) word r (2 ^ 32 % r) (budget - words) g words v q
 
       stop : d .answer .values ≡ [] → RejectionSample (foundOf r amount budget g₀) l₀ l (record { count = count; all = false; words = d .words; rng = d .rng })
       stop q = report false (d .words) (d .rng) (drawn ∙ rw q)

@@ -24,7 +24,8 @@ use Rattle.counting.specs.Bounds.{rising}
 use Rattle.counting.specs.Lists.{Below}
 use Rattle.uniform_int.specs.Draws.{draws}
 use Rattle.uniform_int.specs.Rejecting.{accepts, scaled}
-use Rattle.uniform_int.proofs.Laws.{Positive, draws-within}
+use Rattle.uniform_int.specs.Reads.{Positive}
+use Rattle.uniform_int.proofs.Laws.{draws-within}
 use Rattle.uniform_int.proofs.Scaling.{upper-lt}
 use Rattle.crossover.specs.Method.{methodOf}
 use Rattle.crossover.specs.declared.Method.{Method}

@@ -3,15 +3,18 @@
 -- `countLists p bounds` counts the lists with an entry below each bound that pass the test p, and `count` and `countPairs` count numbers and pairs.
 use mathlib.Core.Path.{_≡_}
 use mathlib.Core.Logic.{_⊎_}
+use mathlib.Core.Bool.{true, false}
 use mathlib.Core.List.{List}
+use mathlib.Core.Option.{none, some}
 use Prim.Native.Nat.{ℕ, _+_, _-_, _*_, _/_, _^_, _≤_, _<_}
 use lib.ListN.{length, take, drop, getD, replicate}
 use Rattle.counting.specs.Count.{countLists, factorial}
 use Rattle.counting.specs.Lists.{same, sameSet, Distinct}
+use Rattle.xoshiro256plusplus.specs.declared.Xoshiro256PlusPlus.{Xoshiro256PlusPlus}
 use Rattle.uniform_int.specs.Shares.{boundedShare}
 use Rattle.index_methods.specs.Floyd.{floydOf, floydBounds}
 use Rattle.index_methods.specs.InPlace.{arranged, falling}
-use Rattle.index_methods.specs.Rejection.{rejectionOf, gives}
+use Rattle.index_methods.specs.Rejection.{rejectionOf, gives, foundOf, acceptedOf}
 use Rattle.index_shares.specs.Shares.{SampleOf}
 use Rattle.slice.specs.Shuffle.{shuffleOf, shuffleBounds}
 use Rattle.slice.specs.Shares.{OrderedTail}
@@ -38,9 +41,17 @@ pub record EqualShares : Type 0 where
   -- and so does the method in place.
   pub in-place : (n amount : ℕ) (sample : List ℕ) → amount ≤ n → SampleOf n amount sample
       → countLists (λ ds. same (take amount (arranged n ds)) sample) (falling n amount) ≡ 1
-  -- For every m, rejection gives each of them from equally many lists of m draws.
+  -- For every m, rejection gives each of them from equally many lists of m draws,
   pub rejection : (n amount m : ℕ) (one other : List ℕ) → SampleOf n amount one → SampleOf n amount other
       → rejectionShare n amount m one ≡ rejectionShare n amount m other
+  -- never from none where there are draws enough.
+  pub rejection-some : (n amount m : ℕ) (sample : List ℕ) → 0 < n → amount ≤ m → SampleOf n amount sample → 0 < rejectionShare n amount m sample
+  -- `sample` reads words, and finds what the accepted ones among them give as draws: that sample,
+  pub words-give : (n amount budget : ℕ) (g : Xoshiro256PlusPlus) → foundOf n amount budget g .all ≡ true
+      → rejectionOf amount (acceptedOf n budget g) ≡ some (foundOf n amount budget g .indices)
+  -- and none where the budget ends first.
+  pub words-lack : (n amount budget : ℕ) (g : Xoshiro256PlusPlus) → foundOf n amount budget g .all ≡ false
+      → rejectionOf amount (acceptedOf n budget g) ≡ none
   -- A partial shuffle of distinct items gives each ordered tail from equally many lists of chunk values,
   pub shuffle : (amount : ℕ) (items one other : List ℕ) → Distinct items → OrderedTail (length items - amount) items one
       → OrderedTail (length items - amount) items other → tailShare amount items one ≡ tailShare amount items other

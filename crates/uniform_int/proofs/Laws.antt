@@ -13,15 +13,17 @@ use lib.Dec.{leb}
 use borrow.Author.Tests.{lt-ltb, le-ltb, le-leb, lt-leb, leb-true}
 use Rattle.xoshiro256plusplus.specs.Generator.{word, advance, steps}
 use Rattle.xoshiro256plusplus.specs.declared.Xoshiro256PlusPlus.{Xoshiro256PlusPlus}
-use Rattle.xoshiro256plusplus.proofs.Laws.{word-lt, steps-zero, steps-one, steps-add}
+use Rattle.xoshiro256plusplus.proofs.Laws.{word-lt, steps-zero, steps-one, steps-next, steps-add}
 use Rattle.counting.specs.Bounds.{rising}
 use Rattle.counting.specs.Lists.{Within}
 use Rattle.refusal.specs.Answer.{done, declined}
+use Rattle.refusal.specs.Number.{number}
 use Rattle.refusal.specs.declared.Refusal.the-variants.{BudgetExhausted}
 use Rattle.uniform_int.specs.Bounded.{readsTwo, boundedValue, bounded}
 use Rattle.uniform_int.specs.Rejecting.{Drawing, found, spent, accepts, scaled, rejectingAt, rejecting}
 use Rattle.uniform_int.specs.Within.{boundedWithin}
 use Rattle.uniform_int.specs.Draws.{draws, before}
+use Rattle.uniform_int.specs.Reads.{Positive}
 use Rattle.uniform_int.specs.declared.Drawn.{Drawn}
 use Rattle.uniform_int.proofs.Scaling.{value-lt, value-one}
 
@@ -156,7 +158,64 @@ module _ (M : ℕ) (read : Xoshiro256PlusPlus → ℕ) (r t n k : ℕ) (g : Xosh
       let e : n - k ≡ suc (n - (k + 1)) = omega arith in
       rw (e, a, rejectingAt) (ap (rejectingAt M read r t (n - (k + 1)) (advance g)) (sym (add-one k)))
 
+-- the words that it has read: no more than were left, all of them where it is spent, more than before where it gives a value
+module _ (M : ℕ) (read : Xoshiro256PlusPlus → ℕ) (r t : ℕ) where
+  abbrev drawing : Bool → (n k : ℕ) → Xoshiro256PlusPlus → Drawing
+  drawing b n k g = elim b [ true ↦ found (scaled M r (read g)) (suc k) (advance g) | false ↦ rejectingAt M read r t n (advance g) (suc k) ]
+
+  pub rejecting-most : (n : ℕ) (g : Xoshiro256PlusPlus) (k : ℕ) → rejectingAt M read r t n g k .words ≤ n + k
+  unfolding rejectingAt
+  rejecting-most zero g k = omega arith
+  rejecting-most (suc n) g k = go (accepts M r t (read g)) (rejecting-most n (advance g) (suc k))
+    where
+      go : (b : Bool) → rejectingAt M read r t n (advance g) (suc k) .words ≤ n + suc k → drawing b n k g .words ≤ suc n + k
+      go true h = omega arith
+      go false h = omega arith
+
+  pub rejecting-more : (n : ℕ) (g : Xoshiro256PlusPlus) (k v : ℕ) → rejectingAt M read r t n g k .answer .values ≡ v ∷ [] → k < rejectingAt M read r t n g k .words
+  unfolding rejectingAt
+  rejecting-more zero g k v e = let z : _≡_ {A = ℕ} 0 1 = cc in absurd (omega arith)
+  rejecting-more (suc n) g k v e = go (accepts M r t (read g)) (rejecting-more n (advance g) (suc k) v) e
+    where
+      go : (b : Bool) → (rejectingAt M read r t n (advance g) (suc k) .answer .values ≡ v ∷ [] → suc k < rejectingAt M read r t n (advance g) (suc k) .words)
+          → drawing b n k g .answer .values ≡ v ∷ [] → k < drawing b n k g .words
+      go true ih e = omega arith
+      go false ih e = omega (arith, ih e)
+
+  pub rejecting-spent : (n : ℕ) (g : Xoshiro256PlusPlus) (k : ℕ) → rejectingAt M read r t n g k .answer .number ≡ number BudgetExhausted
+      → rejectingAt M read r t n g k .words ≡ n + k
+  unfolding rejectingAt
+  rejecting-spent zero g k e = omega arith
+  rejecting-spent (suc n) g k e = go (accepts M r t (read g)) (rejecting-spent n (advance g) (suc k)) e
+    where
+      go : (b : Bool)
+          → (rejectingAt M read r t n (advance g) (suc k) .answer .number ≡ 13 → rejectingAt M read r t n (advance g) (suc k) .words ≡ n + suc k)
+          → drawing b n k g .answer .number ≡ 13 → drawing b n k g .words ≡ suc n + k
+      go true ih e = absurd (omega arith)
+      go false ih e = omega (arith, ih e)
+
+  -- the generator afterwards is the one after so many words from the start
+  pub rejecting-steps : (n : ℕ) (g : Xoshiro256PlusPlus) (k : ℕ) (g₀ : Xoshiro256PlusPlus) → g ≡ steps k g₀
+      → rejectingAt M read r t n g k .rng ≡ steps (rejectingAt M read r t n g k .words) g₀
+  unfolding rejectingAt
+  rejecting-steps zero g k g₀ e = e
+  rejecting-steps (suc n) g k g₀ e = go (accepts M r t (read g)) (rejecting-steps n (advance g) (suc k) g₀ (steps-next k g g₀ e))
+    where
+      go : (b : Bool) → rejectingAt M read r t n (advance g) (suc k) .rng ≡ steps (rejectingAt M read r t n (advance g) (suc k) .words) g₀
+          → drawing b n k g .rng ≡ steps (drawing b n k g .words) g₀
+      go true ih = steps-next k g g₀ e
+      go false ih = ih
+
 -- ---- lists of bounded draws
+
+-- the generator afterwards is the one after so many words
+pub draws-steps : (rs : List ℕ) (g : Xoshiro256PlusPlus) → draws rs g .rng ≡ steps (draws rs g .words) g
+unfolding draws
+draws-steps [] g = sym (steps-zero g)
+draws-steps (r ∷ rs) g =
+    draws-steps rs (bounded r g .rng)
+    ∙ ap (steps (draws rs (bounded r g .rng) .words)) (bounded-steps r g)
+    ∙ steps-add (bounded r g .words) (draws rs (bounded r g .rng) .words) g
 
 pub draws-nil : (g : Xoshiro256PlusPlus) → draws [] g ≡ record { values = []; words = 0; rng = g }
 unfolding draws
@@ -174,11 +233,6 @@ unfolding rising
 draws-rising j end g h =
     let n : end - j ≡ suc (end - (j + 1)) = omega arith in
     rw (n, add-one j) (draws-cons (suc j) (rising (suc j) (end - suc j)) g)
-
--- every bound is at least 1
-abbrev pub Positive : List ℕ → Type 0
-Positive [] = Unit {0}
-Positive (r ∷ rs) = (0 < r) × Positive rs
 
 -- a value below each bound
 pub draws-within : (rs : List ℕ) (g : Xoshiro256PlusPlus) → Positive rs → Within (draws rs g .values) rs

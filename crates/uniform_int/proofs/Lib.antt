@@ -4,3 +4,4 @@ pub mod Multiples
 pub mod RejectingShares
 pub mod BoundedShares
 pub mod Shares
+pub mod DrawReads

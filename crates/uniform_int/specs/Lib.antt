@@ -4,3 +4,4 @@ pub mod Rejecting
 pub mod Within
 pub mod Draws
 pub mod Shares
+pub mod Reads

@@ -1,15 +1,21 @@
 -- The table of worked examples, by one computation.
 -- Assumes nothing.
 use mathlib.Core.Path.{refl}
-use Rattle.uniform_int.specs.Bounded.{boundedValue, readsTwo}
-use Rattle.uniform_int.specs.Rejecting.{accepts, scaled}
+use Rattle.xoshiro256plusplus.specs.Word64.{add64, shl64, rotl64}
+use Rattle.xoshiro256plusplus.specs.Generator.{output, advance, word}
+use Rattle.uniform_int.specs.Bounded.{boundedValue, readsTwo, bounded}
+use Rattle.uniform_int.specs.Rejecting.{accepts, scaled, rejectingAt, rejecting}
 use Rattle.index_methods.specs.Floyd.{replaced, floydFrom, floydOf}
 use Rattle.increasing_uniform.specs.Chunks.{factors, moreFrom, moreOf, handed, indicesOf}
 use Rattle.slice.specs.Shuffle.{shuffleFrom, shuffleOf}
-use Rattle.weighted_index.specs.Weights.{total, sumsFrom, firstAbove}
+use Rattle.weighted_index.specs.Weights.{total, overflows, allZero, sumsFrom, weightsFrom, firstAbove}
+use Rattle.weighted_index.specs.Tables.{tableOf, heldSums, heldWeights, falls, exceeds, brokenTable}
+use Rattle.weighted_index.specs.Answers.{refuses}
+use Rattle.weighted_index.specs.New.{makes, newOf}
 use Rattle.update_weights.specs.Change as Change
-use Rattle.worked_examples.specs.Table.{drawRow, wordRow, boundRow, sumsRow, table, holds, WorkedExamples}
+use Rattle.pick.specs.Pick.{itemAt}
+use Rattle.worked_examples.specs.Table.{nextWords, drawRow, rejectRow, boundRow, newSums, pickRow, changeRow, table, holds, WorkedExamples}
 
 pub worked-examples : WorkedExamples
-unfolding boundedValue readsTwo accepts scaled replaced floydFrom floydOf factors moreFrom moreOf handed indicesOf shuffleFrom shuffleOf total sumsFrom firstAbove Change.replaced drawRow wordRow boundRow sumsRow table holds
+unfolding add64 shl64 rotl64 output advance word boundedValue readsTwo bounded accepts scaled rejectingAt rejecting replaced floydFrom floydOf factors moreFrom moreOf handed indicesOf shuffleFrom shuffleOf total overflows allZero sumsFrom weightsFrom firstAbove tableOf heldSums heldWeights falls exceeds brokenTable refuses makes newOf Change.replaced Change.itemsRefusal Change.listsRefusal Change.updateOf itemAt nextWords drawRow rejectRow boundRow newSums pickRow changeRow table holds
 worked-examples = record { all = refl }

@@ -1,18 +1,22 @@
 -- The twelve draws that document 01 marks *, computed from the definitions that the calls' contracts cite. A row is what a definition gives,
--- and what document 01 says.
+-- and what document 01 says. Words are those of a generator, whose state is made so that these words come next.
 use mathlib.Core.Path.{_≡_}
-use mathlib.Core.Bool.{Bool, true, cond, _&&_}
+use mathlib.Core.Bool.{Bool, true, _&&_}
 use mathlib.Core.List.{List, [], _∷_, _++_, map}
-use Prim.Native.Nat.{ℕ, suc, _%_, _^_}
-use Rattle.counting.specs.Count.{oneIf}
+use Prim.Native.Nat.{ℕ, zero, suc}
 use Rattle.counting.specs.Lists.{same}
-use Rattle.uniform_int.specs.Bounded.{boundedValue, readsTwo}
-use Rattle.uniform_int.specs.Rejecting.{accepts, scaled}
+use Rattle.xoshiro256plusplus.specs.Generator.{word, advance}
+use Rattle.xoshiro256plusplus.specs.declared.Xoshiro256PlusPlus.{Xoshiro256PlusPlus}
+use Rattle.uniform_int.specs.Bounded.{bounded}
+use Rattle.uniform_int.specs.Rejecting.{rejecting}
 use Rattle.index_methods.specs.Floyd.{floydOf}
 use Rattle.increasing_uniform.specs.Chunks.{factors, moreOf}
 use Rattle.slice.specs.Shuffle.{shuffleOf}
-use Rattle.weighted_index.specs.Weights.{total, sumsFrom, firstAbove}
-use Rattle.update_weights.specs.Change.{replaced}
+use Rattle.weighted_index.specs.Tables.{tableOf}
+use Rattle.weighted_index.specs.Answers.{Making}
+use Rattle.weighted_index.specs.New.{newOf}
+use Rattle.update_weights.specs.Change.{updateOf}
+use Rattle.pick.specs.Pick.{itemAt}
 
 pub record Row : Type 0 where
   pub computed : List ℕ
@@ -21,32 +25,54 @@ pub record Row : Type 0 where
 abbrev row : List ℕ → List ℕ → Row
 row c s = record { computed = c; stated = s }
 
--- a bounded draw below r from the words a and b: its value, and the words that it reads
-unfoldable pub drawRow : (r a b : ℕ) → List ℕ
-drawRow r a b = boundedValue (2 ^ 32) r a b ∷ cond (readsTwo (2 ^ 32) r a) 2 1 ∷ []
+-- ---- draws: the words that are read, and then what they give
 
--- a word at a rejecting draw below r: whether it is accepted, and the value that it gives
-unfoldable pub wordRow : (r a : ℕ) → List ℕ
-wordRow r a = oneIf (accepts (2 ^ 32) r (2 ^ 32 % r) a) ∷ scaled (2 ^ 32) r a ∷ []
+abbrev state : (s0 s1 s2 s3 : ℕ) → Xoshiro256PlusPlus
+state s0 s1 s2 s3 = record { s0 = s0; s1 = s1; s2 = s2; s3 = s3 }
+
+-- the generator's next n words
+unfoldable pub nextWords : (n : ℕ) → Xoshiro256PlusPlus → List ℕ
+nextWords zero g = []
+nextWords (suc n) g = word g ∷ nextWords n (advance g)
+
+-- a bounded draw below r: the words that it reads, and its value
+unfoldable pub drawRow : (r : ℕ) → Xoshiro256PlusPlus → List ℕ
+drawRow r g = nextWords (bounded r g .words) g ++ (bounded r g .value ∷ [])
+
+-- a rejecting draw below r with so many words to read: the words that it reads, the number of its answer, and its value
+unfoldable pub rejectRow : (r budget : ℕ) → Xoshiro256PlusPlus → List ℕ
+rejectRow r budget g = nextWords (rejecting r budget g 0 .words) g ++ (rejecting r budget g 0 .answer .number ∷ rejecting r budget g 0 .answer .values)
 
 -- the bound of a chunk that starts at m, and the number of its factors
 unfoldable pub boundRow : ℕ → List ℕ
 boundRow m = factors m (suc (moreOf m)) ∷ suc (moreOf m) ∷ []
 
--- the running sums of weights, and last the total
-unfoldable pub sumsRow : List ℕ → List ℕ
-sumsRow ws = total ws ∷ sumsFrom 0 ws
+-- ---- tables of weights
+
+-- the sums that a new table of ws leaves in a slice
+unfoldable pub newSums : (ws slice : List ℕ) → List ℕ
+newSums ws slice = newOf ws slice .sums
+
+-- the items that these numbers pick
+unfoldable pub pickRow : (ws slice numbers : List ℕ) → List ℕ
+pickRow ws slice numbers = map (itemAt (tableOf ws) (newSums ws slice)) numbers
+
+-- a change of a new table: the number of its answer, the record's count and total, and the sums
+unfoldable pub changeRow : (ws slice places weights : List ℕ) → List ℕ
+changeRow ws slice places weights =
+    let m : Making = updateOf (tableOf ws) (newSums ws slice) places weights in
+    m .answer .number ∷ (m .answer .values ++ m .sums)
 
 unfoldable pub table : List Row
 table =
     -- r = 6: word 2147483648 gives 3; word 4294967295 gives 5, one word read
-    row (drawRow 6 2147483648 0) (3 ∷ 1 ∷ [])
-    ∷ row (drawRow 6 4294967295 0) (5 ∷ 1 ∷ [])
+    row (drawRow 6 (state 0 0x10000000000 0 0x10000000000)) (2147483648 ∷ 3 ∷ [])
+    ∷ row (drawRow 6 (state 0 0x1fffffffe00 0 0x1fffffffe00)) (4294967295 ∷ 5 ∷ [])
     -- r = 6: words 715827882, 2863311531 give 1; 715827882, 2863311530 give 0
-    ∷ row (drawRow 6 715827882 2863311531) (1 ∷ 2 ∷ [])
-    ∷ row (drawRow 6 715827882 2863311530) (0 ∷ 2 ∷ [])
+    ∷ row (drawRow 6 (state 0x1555552ab56 0x5aa952fffffffdff 0 0x5aa952fffffffdff)) (715827882 ∷ 2863311531 ∷ 1 ∷ [])
+    ∷ row (drawRow 6 (state 0x1555552a956 0x5aad52ffffffffff 0 0x5aad52ffffffffff)) (715827882 ∷ 2863311530 ∷ 0 ∷ [])
     -- rejecting, r = 6: words 0, 1 give 0; word 0 is dropped
-    ∷ row (wordRow 6 0 ++ wordRow 6 1) (0 ∷ 0 ∷ 1 ∷ 0 ∷ [])
+    ∷ row (rejectRow 6 2 (state 0x200 0xfffc01fffffffdff 0 0xfffc01fffffffdff)) (0 ∷ 1 ∷ 0 ∷ 0 ∷ [])
     -- Floyd 2 of 3: draws 1, 1 give 2, 1; draws 0, 0 give 2, 0
     ∷ row (floydOf 3 2 (1 ∷ 1 ∷ [])) (2 ∷ 1 ∷ [])
     ∷ row (floydOf 3 2 (0 ∷ 0 ∷ [])) (2 ∷ 0 ∷ [])
@@ -56,9 +82,9 @@ table =
     -- a shuffle of a b c with chunk 7 gives c b a
     ∷ row (shuffleOf 0 (97 ∷ 98 ∷ 99 ∷ []) (7 ∷ [])) (99 ∷ 98 ∷ 97 ∷ [])
     -- weights 2, 0, 3: c = 1 picks 0, c = 2 picks 2
-    ∷ row (map (λ c. firstAbove c (sumsFrom 0 (2 ∷ 0 ∷ 3 ∷ []))) (1 ∷ 2 ∷ [])) (0 ∷ 2 ∷ [])
+    ∷ row (pickRow (2 ∷ 0 ∷ 3 ∷ []) (0 ∷ 0 ∷ []) (1 ∷ 2 ∷ [])) (0 ∷ 2 ∷ [])
     -- place 1 changed to 4: sums 2, 6, total 9
-    ∷ row (sumsRow (replaced (2 ∷ 0 ∷ 3 ∷ []) (1 ∷ []) (4 ∷ []))) (9 ∷ 2 ∷ 6 ∷ [])
+    ∷ row (changeRow (2 ∷ 0 ∷ 3 ∷ []) (0 ∷ 0 ∷ []) (1 ∷ []) (4 ∷ [])) (0 ∷ 3 ∷ 9 ∷ 2 ∷ 6 ∷ [])
     ∷ []
 
 -- every row computes what is stated

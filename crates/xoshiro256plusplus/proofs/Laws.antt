@@ -42,6 +42,11 @@ pub steps-one : (g : Xoshiro256PlusPlus) → steps 1 g ≡ advance g
 unfolding steps
 steps-one g = refl
 
+-- one step more
+pub steps-next : (k : ℕ) (g g₀ : Xoshiro256PlusPlus) → g ≡ steps k g₀ → advance g ≡ steps (suc k) g₀
+unfolding steps
+steps-next k g g₀ e = ap advance e
+
 -- steps after steps
 pub steps-add : (k n : ℕ) (g : Xoshiro256PlusPlus) → steps n (steps k g) ≡ steps (k + n) g
 unfolding steps
