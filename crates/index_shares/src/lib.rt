@@ -1,2 +1,2 @@
-// The shares stand in specs/EqualShares.antt and are proved in proofs/. A crate has at least one function: this one does nothing.
+// The shares stand in specs/Shares.antt and are proved in proofs/. A crate has at least one function: this one does nothing.
 pub fn nothing() {}

@@ -1,0 +1,3 @@
+pub mod Samples
+pub mod Others
+pub mod WordsRead
