@@ -9,7 +9,7 @@ ghost use Rattle.weighted_index.specs.Weights.{mostWeights, firstAbove};
 ghost use Rattle.weighted_index.specs.Rising.{rises};
 ghost use Rattle.weighted_index.specs.Tables.{brokenTable};
 ghost use Rattle.pick.specs.Answers.{picked};
-ghost use Rattle.pick.specs.Pick.{choosing, pickOf};
+ghost use Rattle.pick.specs.Pick.{choosing, refusesPick, pickOf};
 use refusal::Refusal;
 use uniform_int::Draw;
 use uniform_int::UniformInt;
@@ -92,9 +92,9 @@ pub fn sample_whole(
     }
 }
 
-// A refusal that has read no word.
+// A refusal that has read no word: the definition `refusesPick`.
 fn refused_pick(why: Refusal, rng: Xoshiro256PlusPlus) -> Picked
-    ensures { λ r. ⌜ r ≡ record { answer = Choice.Refused why; words = 0; rng = rng } ⌝ }
+    ensures { λ r. ⌜ picked r ≡ refusesPick why rng ⌝ }
 {
     Picked {
         answer: Choice::Refused(why),

@@ -1,5 +1,6 @@
 -- What a call answers, as a promise states it: a number and values. Every answer enum is read as one of these.
 use mathlib.Core.List.{List, [], _∷_}
+use mathlib.Core.Option.{Option, none, some}
 use Prim.Native.Nat.{ℕ, zero, suc}
 use Rattle.refusal.specs.Number.{number}
 use Rattle.refusal.specs.declared.Refusal.{Refusal}
@@ -18,6 +19,11 @@ done vs = record { number = 0; values = vs }
 -- declined for this cause
 abbrev pub declined : Refusal → Answer
 declined r = record { number = number r; values = [] }
+
+-- declined for the cause that a check has found, or carried out with these values where it has found none
+abbrev pub decided : Option Refusal → List ℕ → Answer
+decided none vs = done vs
+decided (some why) vs = declined why
 
 -- what a refusal has left to count: no value where that is nothing
 abbrev pub counted : ℕ → List ℕ

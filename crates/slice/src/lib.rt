@@ -1,8 +1,9 @@
 // Shuffles of a slice, as in rand's `slice.rs`.
+ghost use mathlib.Core.List.{List};
 ghost use mathlib.Core.Path.{_≡_};
-ghost use Prim.Native.Nat.{_-_, _^_, _≤_};
+ghost use Prim.Native.Nat.{ℕ, _-_, _^_, _≤_};
 ghost use lib.ListN.{length};
-ghost use Rattle.slice.specs.Shuffled.{ended, shuffledFrom, partialShuffleOf, wholeShuffleOf};
+ghost use Rattle.slice.specs.Shuffled.{ended, refuses, shuffledFrom, partialShuffleOf, wholeShuffleOf};
 use increasing_uniform::IncreasingUniform;
 use parts::swap;
 use refusal::Outcome;
@@ -17,9 +18,9 @@ pub struct Shuffled {
     pub rng: Xoshiro256PlusPlus,
 }
 
-// A refusal: nothing is read.
+// A refusal, whatever the items are: nothing is read. The definition is `refuses`.
 fn refused(refusal: Refusal, rng: Xoshiro256PlusPlus) -> Shuffled
-    ensures { λ r. ⌜ r ≡ record { outcome = Outcome.Refused refusal; n = 0; words = 0; rng = rng } ⌝ }
+    ensures { λ r. ⌜ ((items : List ℕ) → ended r items ≡ refuses refusal rng items) ⌝ }
 {
     Shuffled {
         outcome: Outcome::Refused(refusal),
