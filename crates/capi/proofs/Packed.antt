@@ -4,7 +4,7 @@ use mathlib.Core.Path.{_≡_}
 use mathlib.Core.List.{List, [], _∷_}
 use Prim.Native.Nat.{ℕ}
 use Rattle.refusal.specs.Answer.{answerOf}
-use Rattle.refusal.proofs.Outcomes.{number-of, values-of}
+use Rattle.refusal.proofs.Outcomes.{number-of, value-of}
 use Rattle.refusal.specs.declared.Outcome.{Outcome}
 use Rattle.index.specs.Sample as Sample
 use Rattle.index.specs.declared.IndexSample.{IndexSample}
@@ -21,14 +21,14 @@ module _ (number : ℕ) (state out : List ℕ) where
   pub packed-sample : (s : IndexSample) (indices scratch : List ℕ) → number ≡ answerOf (s .outcome) 0 .number → state ≡ words (s .rng) → out ≡ s .words ∷ s .count ∷ []
       → record { number = number; state = state; out = out; indices = indices; scratch = scratch } ≡ sampled (Sample.ended s indices scratch)
   unfolding sampled
-  packed-sample s indices scratch e f g = rw (e, f, g, number-of (s .outcome) (s .count), values-of (s .outcome) (s .count))
+  packed-sample s indices scratch e f g = rw (e, f, g, number-of (s .outcome) (s .count), value-of (s .outcome) (s .count))
 
   pub packed-shuffle : (s : Shuffled) (items : List ℕ) → number ≡ answerOf (s .outcome) 0 .number → state ≡ words (s .rng) → out ≡ s .words ∷ s .n ∷ []
       → record { number = number; state = state; out = out; items = items } ≡ shuffled (Shuffle.ended s items)
   unfolding shuffled
-  packed-shuffle s items e f g = rw (e, f, g, number-of (s .outcome) (s .n), values-of (s .outcome) (s .n))
+  packed-shuffle s items e f g = rw (e, f, g, number-of (s .outcome) (s .n), value-of (s .outcome) (s .n))
 
   pub packed-fill : (s : Filled) (buf : List ℕ) → number ≡ answerOf (s .outcome) 0 .number → state ≡ words (s .rng) → out ≡ s .words ∷ s .count ∷ []
       → record { number = number; state = state; out = out; buf = buf } ≡ filled (Fill.ended s buf)
   unfolding filled
-  packed-fill s buf e f g = rw (e, f, g, number-of (s .outcome) (s .count), values-of (s .outcome) (s .count))
+  packed-fill s buf e f g = rw (e, f, g, number-of (s .outcome) (s .count), value-of (s .outcome) (s .count))

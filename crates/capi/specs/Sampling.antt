@@ -1,8 +1,8 @@
 -- What `gapyndura_sample` writes, as a sample leaves it.
-use mathlib.Core.List.{List, _∷_}
+use mathlib.Core.List.{List, [], _∷_}
 use Prim.Native.Nat.{ℕ}
 use Rattle.index.specs.Sample.{Sampling}
-use Rattle.boundary.specs.State.{words}
+use Rattle.boundary.specs.State.{words, valueOr0}
 
 -- what it returns, and what the caller's memory then holds
 pub record Sampled : Type 0 where
@@ -12,6 +12,7 @@ pub record Sampled : Type 0 where
   pub indices : List ℕ
   pub scratch : List ℕ
 
--- the number of the answer, the generator, the words read and then the answer's value, and both slices
+-- the number of the answer, the generator, the words read and then the count of indices written, and both slices
 unfoldable pub sampled : Sampling → Sampled
-sampled s = record { number = s .answer .number; state = words (s .rng); out = s .words ∷ s .answer .values; indices = s .indices; scratch = s .scratch }
+sampled s =
+    record { number = s .answer .number; state = words (s .rng); out = s .words ∷ valueOr0 (s .answer) ∷ []; indices = s .indices; scratch = s .scratch }

@@ -4,14 +4,13 @@ use mathlib.Core.Path.{_≡_, refl, sym, ap, _∙_}
 use mathlib.Core.Bool.{Bool, true, false, cond}
 use mathlib.Core.Logic.{⊎-elim}
 use mathlib.Core.List.{List, [], _∷_}
+use mathlib.Core.Option.{Option, none, some}
 use Prim.Native.Nat.{ℕ, zero, suc, _+_, _-_, _^_}
 use native.Mathlib.Omega.{arith}
 use lib.Dec.{ltb, eqb}
 use lib.ListN.{length, getD}
 use Rattle.refusal.specs.Answer.{Answer, done, declined}
 use Rattle.refusal.specs.Number.{number}
-use Rattle.refusal.specs.declared.Outcome.{Outcome}
-use Rattle.refusal.specs.declared.Outcome.the-variants.{Done, Refused}
 use Rattle.refusal.specs.declared.Refusal.{Refusal}
 use Rattle.refusal.specs.declared.Refusal.the-variants.{TooLong, InvalidHints, ZeroState}
 use Rattle.xoshiro256plusplus.specs.Generator.{zeroState, steps}
@@ -27,7 +26,7 @@ use Rattle.choose.specs.Turns.{ending, next, after, given, taking, byCoi
 use Rattle.choose.specs.Stable.{stableFrom}
 use Rattle.choose.specs.Choose.{exactly, turnOf, drawnLast, chooseFrom, checkOf, chooseOf, chooseStableOf}
 use Rattle.choose.specs.Choosing.{Reads}
-use Rattle.choose.proofs.ChooseCases.{choose-refused, stable-refused, stable}
+use Rattle.choose.proofs.ChooseCases.{told, choose-refused, stable-refused, stable}
 
 never : (a : Answer) → a .number ≡ 0 → a .number ≡ 13 → ⊥
 never a e f = omega arith
@@ -122,30 +121,30 @@ module _ (g : Xoshiro256PlusPlus) (budget : ℕ) where
 -- ---- the calls
 
 -- a refusal before a word is read is not 13
-early : (g : Xoshiro256PlusPlus) (items lower upper : List ℕ) (why : Refusal) → checkOf g items lower upper ≡ Refused why → number why ≡ 13 → ⊥
+early : (g : Xoshiro256PlusPlus) (items lower upper : List ℕ) (why : Refusal) → checkOf g items lower upper ≡ some why → number why ≡ 13 → ⊥
 unfolding checkOf
 early g items lower upper why = go (zeroState g) (ltb (2 ^ 32 - 2) (length items)) (hintsHold (length items) lower upper)
   where
-    differs : (x : Refusal) → Refused x ≡ Refused why → (number x ≡ 13 → ⊥) → number why ≡ 13 → ⊥
+    differs : (x : Refusal) → _≡_ {A = Option Refusal} (some x) (some why) → (number x ≡ 13 → ⊥) → number why ≡ 13 → ⊥
     differs x e h f = let q : x ≡ why = cc in h (ap number q ∙ f)
 
-    go : (z t v : Bool) → cond z (Refused ZeroState) (cond t (Refused TooLong) (cond v Done (Refused InvalidHints))) ≡ Refused why → number why ≡ 13 → ⊥
+    go : (z t v : Bool) → cond z (some ZeroState) (cond t (some TooLong) (cond v none (some InvalidHints))) ≡ some why → number why ≡ 13 → ⊥
     go true t v e f = differs ZeroState e (λ n. omega arith) f
     go false true v e f = differs TooLong e (λ n. omega arith) f
     go false false true e f = let z : _≡_ {A = ℕ} 0 1 = cc in omega arith
     go false false false e f = differs InvalidHints e (λ n. omega arith) f
 
 module _ (g : Xoshiro256PlusPlus) (items lower upper : List ℕ) (budget : ℕ) where
-  refused-reads : (why : Refusal) → checkOf g items lower upper ≡ Refused why → Reads g budget (ending (declined why) (start g))
+  refused-reads : (why : Refusal) → checkOf g items lower upper ≡ some why → Reads g budget (ending (declined why) (start g))
   refused-reads why c = ends g budget (declined why) (start g) (read-start g budget) (λ e. absurd (early g items lower upper why c e))
 
   pub choose-reads : Reads g budget (chooseOf g items lower upper budget)
   unfolding chooseOf
   choose-reads = go (checkOf g items lower upper) refl
     where
-      go : (o : Outcome) → checkOf g items lower upper ≡ o → Reads g budget (chooseOf g items lower upper budget)
-      go (Refused why) c = rw (choose-refused g items lower upper budget why c) (refused-reads why c)
-      go Done c = rw c (either (eqb (getD upper 0 0) (getD lower 0 0)))
+      go : (o : Option Refusal) → checkOf g items lower upper ≡ o → Reads g budget (chooseOf g items lower upper budget)
+      go (some why) c = rw (choose-refused g items lower upper budget why (told g items lower upper (some why) c)) (refused-reads why c)
+      go none c = rw c (either (eqb (getD upper 0 0) (getD lower 0 0)))
         where
           either : (b : Bool) → Reads g budget (cond b (exactly budget items (getD lower 0 0) g) (chooseFrom budget lower upper items 0 0 [] (start g)))
           either true = exact-reads g budget items (getD lower 0 0)
@@ -154,6 +153,6 @@ module _ (g : Xoshiro256PlusPlus) (items lower upper : List ℕ) (budget : ℕ) 
   pub stable-reads : Reads g budget (chooseStableOf g items lower upper budget)
   stable-reads = go (checkOf g items lower upper) refl
     where
-      go : (o : Outcome) → checkOf g items lower upper ≡ o → Reads g budget (chooseStableOf g items lower upper budget)
-      go (Refused why) c = rw (stable-refused g items lower upper budget why c) (refused-reads why c)
-      go Done c = rw (stable g items lower upper budget c) (each-reads g budget items 0 [] (start g) (read-start g budget))
+      go : (o : Option Refusal) → checkOf g items lower upper ≡ o → Reads g budget (chooseStableOf g items lower upper budget)
+      go (some why) c = rw (stable-refused g items lower upper budget why (told g items lower upper (some why) c)) (refused-reads why c)
+      go none c = rw (stable g items lower upper budget c) (each-reads g budget items 0 [] (start g) (read-start g budget))

@@ -2,15 +2,15 @@
 -- Assumes nothing.
 use mathlib.Core.Path.{_≡_, refl, sym, ap, _∙_}
 use mathlib.Core.Bool.{Bool, true, false, cond}
-use mathlib.Core.List.{List, []}
+use mathlib.Core.List.{List, [], _∷_}
+use mathlib.Core.Option.{Option, none, some}
 use Prim.Native.Nat.{ℕ, suc, _-_, _^_, _≤_, _<_}
 use native.Mathlib.Nat.{sub-zero}
 use native.Mathlib.Omega.{arith}
 use lib.Dec.{ltb}
 use lib.ListN.{length, getD}
 use borrow.Author.Tests.{lt-ltb, le-ltb, ltb-false, eq-eqb, ne-eqb}
-use Rattle.refusal.specs.Answer.{declined}
-use Rattle.refusal.specs.declared.Outcome.the-variants.{Done, Refused}
+use Rattle.refusal.specs.Answer.{Answer, done, declined, decided}
 use Rattle.refusal.specs.declared.Refusal.{Refusal}
 use Rattle.refusal.specs.declared.Refusal.the-variants.{TooLong, InvalidHints, ZeroState, BudgetExhausted}
 use Rattle.xoshiro256plusplus.specs.Generator.{zeroState}
@@ -24,29 +24,39 @@ use Rattle.coin_flipper.specs.Within.{start}
 use Rattle.choose.specs.Hints.{hintsHold}
 use Rattle.choose.specs.Turns.{chosen, ending}
 use Rattle.choose.specs.Stable.{stableFrom}
-use Rattle.choose.specs.Choose.{itemAt, exactly, chooseFrom, checkOf, chooseOf, chooseStableOf}
+use Rattle.choose.specs.Choose.{itemAt, exactly, chooseFrom, checkOf, unless, chooseOf, chooseStableOf}
 use Rattle.choose.specs.declared.Choice.the-variants.{Item, Nothing, Refused as RefusedChoice}
 use Rattle.choose.proofs.HintsChecked.{hinted}
 use Rattle.choose.proofs.StableTurns.{in-order}
 
+-- ---- a check's answer
+
+none-found : (o : Option Refusal) → done (0 ∷ []) ≡ decided o (0 ∷ []) → o ≡ none
+none-found none e = refl
+none-found (some why) e = let z : _≡_ {A = ℕ} 1 0 = ap (λ (a : Answer). length (a .values)) e in absurd (omega arith)
+
+refused-end : (o : Option Refusal) (why : Refusal) (g : Xoshiro256PlusPlus) (d : Drawing) → declined why ≡ decided o (0 ∷ []) → unless o g d ≡ ending (declined why) (start g)
+refused-end none why g d e = let z : _≡_ {A = ℕ} 0 1 = ap (λ (a : Answer). length (a .values)) e in absurd (omega arith)
+refused-end (some x) why g d e = ap (λ (a : Answer). ending a (start g)) (sym e)
+
 -- ---- the checks before a word is read
 
 module _ (g : Xoshiro256PlusPlus) (items lower upper : List ℕ) where
-  pub zero-state : zeroState g ≡ true → checkOf g items lower upper ≡ Refused ZeroState
+  pub zero-state : zeroState g ≡ true → checkOf g items lower upper ≡ some ZeroState
   unfolding checkOf
   zero-state z = rw z
 
   module _ (z : zeroState g ≡ false) where
-    pub too-long : 2 ^ 32 - 2 < length items → checkOf g items lower upper ≡ Refused TooLong
+    pub too-long : 2 ^ 32 - 2 < length items → checkOf g items lower upper ≡ some TooLong
     unfolding checkOf
     too-long h = rw (z, lt-ltb (2 ^ 32 - 2) (length items) h)
 
     module _ (h : length items ≤ 2 ^ 32 - 2) where
-      pub invalid : hintsHold (length items) lower upper ≡ false → checkOf g items lower upper ≡ Refused InvalidHints
+      pub invalid : hintsHold (length items) lower upper ≡ false → checkOf g items lower upper ≡ some InvalidHints
       unfolding checkOf
       invalid v = rw (z, le-ltb (2 ^ 32 - 2) (length items) h, v)
 
-      pub good : hintsHold (length items) lower upper ≡ true → checkOf g items lower upper ≡ Done
+      pub good : hintsHold (length items) lower upper ≡ true → checkOf g items lower upper ≡ none
       unfolding checkOf
       good v = rw (z, le-ltb (2 ^ 32 - 2) (length items) h, v)
 
@@ -55,15 +65,15 @@ module _ (g : Xoshiro256PlusPlus) (items lower upper : List ℕ) where
     pub few : length items ≤ 2 ^ 32 - 2
     pub holds : hintsHold (length items) lower upper ≡ true
 
-  never : (why : Refusal) → Refused why ≡ Done → ⊥
+  never : (why : Refusal) → _≡_ {A = Option Refusal} (some why) none → ⊥
   never why e = let z : _≡_ {A = ℕ} 0 1 = cc in omega arith
 
-  pub passed : checkOf g items lower upper ≡ Done → Good
+  pub passed : checkOf g items lower upper ≡ none → Good
   unfolding checkOf
   passed = go (zeroState g) (ltb (2 ^ 32 - 2) (length items)) refl (hintsHold (length items) lower upper) refl
     where
       go : (z t : Bool) → ltb (2 ^ 32 - 2) (length items) ≡ t → (v : Bool) → hintsHold (length items) lower upper ≡ v
-          → cond z (Refused ZeroState) (cond t (Refused TooLong) (cond v Done (Refused InvalidHints))) ≡ Done → Good
+          → cond z (some ZeroState) (cond t (some TooLong) (cond v none (some InvalidHints))) ≡ none → Good
       go true t e v i q = absurd (never ZeroState q)
       go false true e v i q = absurd (never TooLong q)
       go false false e false i q = absurd (never InvalidHints q)
@@ -71,16 +81,26 @@ module _ (g : Xoshiro256PlusPlus) (items lower upper : List ℕ) where
 
   -- ---- the calls
 
+  -- what `check` answered
+  abbrev pub Told : Answer → Type 0
+  Told a = a ≡ decided (checkOf g items lower upper) (0 ∷ [])
+
+  pub told : (o : Option Refusal) → checkOf g items lower upper ≡ o → Told (decided o (0 ∷ []))
+  told o e = sym (ap (λ (p : Option Refusal). decided p (0 ∷ [])) e)
+
+  pub told-good : Told (done (0 ∷ [])) → checkOf g items lower upper ≡ none
+  told-good = none-found (checkOf g items lower upper)
+
   module _ (budget : ℕ) where
-    pub choose-refused : (why : Refusal) → checkOf g items lower upper ≡ Refused why → chooseOf g items lower upper budget ≡ ending (declined why) (start g)
+    pub choose-refused : (why : Refusal) → Told (declined why) → chooseOf g items lower upper budget ≡ ending (declined why) (start g)
     unfolding chooseOf
-    choose-refused why e = rw e
+    choose-refused why e = refused-end (checkOf g items lower upper) why g _ e
 
-    pub stable-refused : (why : Refusal) → checkOf g items lower upper ≡ Refused why → chooseStableOf g items lower upper budget ≡ ending (declined why) (start g)
+    pub stable-refused : (why : Refusal) → Told (declined why) → chooseStableOf g items lower upper budget ≡ ending (declined why) (start g)
     unfolding chooseStableOf
-    stable-refused why e = rw e
+    stable-refused why e = refused-end (checkOf g items lower upper) why g _ e
 
-    module _ (e : checkOf g items lower upper ≡ Done) where
+    module _ (e : checkOf g items lower upper ≡ none) where
       -- whatever the hints are
       pub stable : chooseStableOf g items lower upper budget ≡ stableFrom budget items 0 [] (start g)
       unfolding chooseStableOf

@@ -4,6 +4,7 @@ use mathlib.Core.Path.{_≡_, refl, sym, ap, _∙_}
 use mathlib.Core.Bool.{Bool, true, false, cond}
 use mathlib.Core.Logic.{⊎-elim}
 use mathlib.Core.List.{List, [], _∷_}
+use mathlib.Core.Option.{Option, none, some}
 use Prim.Native.Nat.{ℕ, zero, suc, _+_, _-_, _<_}
 use native.Mathlib.Omega.{arith}
 use lib.Dec.{ltb, eqb}
@@ -11,8 +12,6 @@ use lib.ListN.{length, getD}
 use borrow.Author.Tests.{lt-ltb, ltb-true, eqb-true, eqb-false}
 use Rattle.refusal.specs.Answer.{Answer, done, declined}
 use Rattle.refusal.specs.Number.{number}
-use Rattle.refusal.specs.declared.Outcome.{Outcome}
-use Rattle.refusal.specs.declared.Outcome.the-variants.{Done, Refused}
 use Rattle.refusal.specs.declared.Refusal.{Refusal}
 use Rattle.refusal.specs.declared.Refusal.the-variants.{BudgetExhausted}
 use Rattle.xoshiro256plusplus.specs.declared.Xoshiro256PlusPlus.{Xoshiro256PlusPlus}
@@ -24,7 +23,7 @@ use Rattle.choose.specs.Turns.{ending, after, given, taking, byCoin, dra
 use Rattle.choose.specs.Stable.{stableFrom}
 use Rattle.choose.specs.Choose.{exactly, turnOf, drawnLast, chooseFrom, checkOf, chooseOf, chooseStableOf}
 use Rattle.choose.proofs.ChoiceTurns.{some-number}
-use Rattle.choose.proofs.ChooseCases.{choose-refused, stable-refused, stable, known, unknown}
+use Rattle.choose.proofs.ChooseCases.{told, choose-refused, stable-refused, stable, known, unknown}
 
 -- the call does not end in "none"
 abbrev Some : Drawing → Type 0
@@ -145,23 +144,23 @@ pub choose-none : (g : Xoshiro256PlusPlus) (items lower upper : List ℕ) (budge
 choose-none g [] lower upper budget e = refl
 choose-none g (x ∷ xs) lower upper budget e = go (checkOf g (x ∷ xs) lower upper) refl e
   where
-    by : checkOf g (x ∷ xs) lower upper ≡ Done → (b : Bool) → eqb (getD upper 0 0) (getD lower 0 0) ≡ b → Some (chooseOf g (x ∷ xs) lower upper budget)
+    by : checkOf g (x ∷ xs) lower upper ≡ none → (b : Bool) → eqb (getD upper 0 0) (getD lower 0 0) ≡ b → Some (chooseOf g (x ∷ xs) lower upper budget)
     by c true e = rw (known g (x ∷ xs) lower upper budget c (eqb-true (getD upper 0 0) (getD lower 0 0) e)) (exact-some budget (x ∷ xs) (length xs) g)
     by c false e = rw (unknown g (x ∷ xs) lower upper budget c (eqb-false (getD upper 0 0) (getD lower 0 0) e)) (by-hints-some budget lower upper x xs (start g))
 
-    go : (o : Outcome) → checkOf g (x ∷ xs) lower upper ≡ o → chooseOf g (x ∷ xs) lower upper budget .answer ≡ done [] → x ∷ xs ≡ []
-    go Done c e = absurd (by c (eqb (getD upper 0 0) (getD lower 0 0)) refl e)
-    go (Refused why) c e = absurd (some-refusal why (sym (ap (λ (d : Drawing). d .answer) (choose-refused g (x ∷ xs) lower upper budget why c)) ∙ e))
+    go : (o : Option Refusal) → checkOf g (x ∷ xs) lower upper ≡ o → chooseOf g (x ∷ xs) lower upper budget .answer ≡ done [] → x ∷ xs ≡ []
+    go none c e = absurd (by c (eqb (getD upper 0 0) (getD lower 0 0)) refl e)
+    go (some why) c e = absurd (some-refusal why (sym (ap (λ (d : Drawing). d .answer) (choose-refused g (x ∷ xs) lower upper budget why (told g (x ∷ xs) lower upper (some why) c))) ∙ e))
 
 pub stable-none : (g : Xoshiro256PlusPlus) (items lower upper : List ℕ) (budget : ℕ) → chooseStableOf g items lower upper budget .answer ≡ done [] → items ≡ []
 stable-none g [] lower upper budget e = refl
 stable-none g (x ∷ xs) lower upper budget e = go (checkOf g (x ∷ xs) lower upper) refl e
   where
-    go : (o : Outcome) → checkOf g (x ∷ xs) lower upper ≡ o → chooseStableOf g (x ∷ xs) lower upper budget .answer ≡ done [] → x ∷ xs ≡ []
-    go Done c e = absurd (stable-some budget x xs (start g) (sym (ap (λ (d : Drawing). d .answer) (stable g (x ∷ xs) lower upper budget c)) ∙ e))
-    go (Refused why) c e = absurd (some-refusal why (sym (ap (λ (d : Drawing). d .answer) (stable-refused g (x ∷ xs) lower upper budget why c)) ∙ e))
+    go : (o : Option Refusal) → checkOf g (x ∷ xs) lower upper ≡ o → chooseStableOf g (x ∷ xs) lower upper budget .answer ≡ done [] → x ∷ xs ≡ []
+    go none c e = absurd (stable-some budget x xs (start g) (sym (ap (λ (d : Drawing). d .answer) (stable g (x ∷ xs) lower upper budget c)) ∙ e))
+    go (some why) c e = absurd (some-refusal why (sym (ap (λ (d : Drawing). d .answer) (stable-refused g (x ∷ xs) lower upper budget why (told g (x ∷ xs) lower upper (some why) c))) ∙ e))
 
-module _ (g : Xoshiro256PlusPlus) (lower upper : List ℕ) (budget : ℕ) (c : checkOf g [] lower upper ≡ Done) where
+module _ (g : Xoshiro256PlusPlus) (lower upper : List ℕ) (budget : ℕ) (c : checkOf g [] lower upper ≡ none) where
   pub choose-empty : chooseOf g [] lower upper budget ≡ record { answer = done []; words = 0; rng = g }
   unfolding exactly chooseFrom start
   choose-empty = go (eqb (getD upper 0 0) (getD lower 0 0)) refl

@@ -1,12 +1,12 @@
 -- What `choose` and `choose_stable` answer, refusals included. The definitions follow the Rust, as document 01 says.
 use mathlib.Core.Bool.{Bool, cond, _&&_}
 use mathlib.Core.List.{List, [], _∷_, map}
+use mathlib.Core.Option.{Option, none, some}
 use Prim.Native.Nat.{ℕ, zero, suc, _-_, _^_}
 use lib.Dec.{ltb, eqb}
 use lib.ListN.{length, getD}
 use Rattle.refusal.specs.Answer.{done, declined}
-use Rattle.refusal.specs.declared.Outcome.{Outcome}
-use Rattle.refusal.specs.declared.Outcome.the-variants.{Done, Refused}
+use Rattle.refusal.specs.declared.Refusal.{Refusal}
 use Rattle.refusal.specs.declared.Refusal.the-variants.{TooLong, InvalidHints, ZeroState}
 use Rattle.xoshiro256plusplus.specs.Generator.{zeroState}
 use Rattle.xoshiro256plusplus.specs.declared.Xoshiro256PlusPlus.{Xoshiro256PlusPlus}
@@ -50,17 +50,17 @@ chooseFrom budget lower upper (x ∷ xs) zero p held s =
 
 -- ---- the calls
 
--- the first refusal that applies before a word is read
-unfoldable pub checkOf : Xoshiro256PlusPlus → (items lower upper : List ℕ) → Outcome
+-- the first refusal that applies before a word is read, if one does
+unfoldable pub checkOf : Xoshiro256PlusPlus → (items lower upper : List ℕ) → Option Refusal
 checkOf g items lower upper =
-    cond (zeroState g) (Refused ZeroState)
-    (cond (ltb (2 ^ 32 - 2) (length items)) (Refused TooLong)
-    (cond (hintsHold (length items) lower upper) Done (Refused InvalidHints)))
+    cond (zeroState g) (some ZeroState)
+    (cond (ltb (2 ^ 32 - 2) (length items)) (some TooLong)
+    (cond (hintsHold (length items) lower upper) none (some InvalidHints)))
 
 -- the choice, unless the call is refused before: then no word is read
-abbrev pub unless : Outcome → Xoshiro256PlusPlus → Drawing → Drawing
-unless Done g d = d
-unless (Refused why) g d = ending (declined why) (start g)
+abbrev pub unless : Option Refusal → Xoshiro256PlusPlus → Drawing → Drawing
+unless none g d = d
+unless (some why) g d = ending (declined why) (start g)
 
 -- `choose`: one draw where the two hints at the start agree ("no upper" agrees with no lower hint that holds), else turn by turn
 unfoldable pub chooseOf : Xoshiro256PlusPlus → (items lower upper : List ℕ) (budget : ℕ) → Drawing

@@ -1,10 +1,10 @@
 -- What is said of the two choices besides.
 use mathlib.Core.Path.{_≡_}
 use mathlib.Core.List.{List, []}
+use mathlib.Core.Option.{none}
 use Prim.Native.Nat.{ℕ, _≤_}
 use Rattle.refusal.specs.Answer.{done}
 use Rattle.refusal.specs.Number.{number}
-use Rattle.refusal.specs.declared.Outcome.the-variants.{Done}
 use Rattle.refusal.specs.declared.Refusal.the-variants.{BudgetExhausted}
 use Rattle.xoshiro256plusplus.specs.Generator.{steps}
 use Rattle.xoshiro256plusplus.specs.declared.Xoshiro256PlusPlus.{Xoshiro256PlusPlus}
@@ -22,7 +22,7 @@ pub record Reads (g : Xoshiro256PlusPlus) (budget : ℕ) (d : Drawing) : Type 0 
 
 pub record Choosing : Type 0 where
   -- the stable choice is one-over-(p + 1) for each place p in order, whatever the hints are that the call takes
-  pub stable : (g : Xoshiro256PlusPlus) (items lower upper : List ℕ) (budget : ℕ) → checkOf g items lower upper ≡ Done
+  pub stable : (g : Xoshiro256PlusPlus) (items lower upper : List ℕ) (budget : ℕ) → checkOf g items lower upper ≡ none
       → chooseStableOf g items lower upper budget ≡ stableFrom budget items 0 [] (start g)
   -- "none" is the answer only where there is no item
   pub choose-none : (g : Xoshiro256PlusPlus) (items lower upper : List ℕ) (budget : ℕ)
@@ -30,9 +30,9 @@ pub record Choosing : Type 0 where
   pub stable-none : (g : Xoshiro256PlusPlus) (items lower upper : List ℕ) (budget : ℕ)
       → chooseStableOf g items lower upper budget .answer ≡ done [] → items ≡ []
   -- and there it is the answer of every call that is not refused, at any budget
-  pub choose-empty : (g : Xoshiro256PlusPlus) (lower upper : List ℕ) (budget : ℕ) → checkOf g [] lower upper ≡ Done
+  pub choose-empty : (g : Xoshiro256PlusPlus) (lower upper : List ℕ) (budget : ℕ) → checkOf g [] lower upper ≡ none
       → chooseOf g [] lower upper budget ≡ record { answer = done []; words = 0; rng = g }
-  pub stable-empty : (g : Xoshiro256PlusPlus) (lower upper : List ℕ) (budget : ℕ) → checkOf g [] lower upper ≡ Done
+  pub stable-empty : (g : Xoshiro256PlusPlus) (lower upper : List ℕ) (budget : ℕ) → checkOf g [] lower upper ≡ none
       → chooseStableOf g [] lower upper budget ≡ record { answer = done []; words = 0; rng = g }
   -- every answer, a refusal too, hands back the generator after the words that it has read
   pub choose-reads : (g : Xoshiro256PlusPlus) (items lower upper : List ℕ) (budget : ℕ) → Reads g budget (chooseOf g items lower upper budget)

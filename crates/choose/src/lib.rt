@@ -1,6 +1,8 @@
 // One item of a row that is read once, as in rand's `iterator.rs`. Hints say for each place how many items remain at least and at most, as an
 // iterator's `size_hint` does.
+ghost use mathlib.Core.List.{[], _∷_};
 ghost use mathlib.Core.Path.{_≡_};
+ghost use Rattle.refusal.specs.Answer.{answerOf, decided};
 ghost use Rattle.choose.specs.Choose.{checkOf, chooseOf, chooseStableOf};
 ghost use Rattle.choose.specs.Turns.{chosen};
 use by_hints::choose_by_hints;
@@ -49,9 +51,9 @@ pub(crate) fn closing(held: Choice, flipper: CoinFlipper) -> Chosen
     ended(held, flipper.words, rng)
 }
 
-// The first refusal that applies before a word is read: the definition `checkOf`.
+// The first refusal that applies before a word is read: the definition `checkOf`. No count goes with this outcome: 0 stands in its place.
 fn check(rng: Xoshiro256PlusPlus, items: &[u32], lower: &[u32], upper: &[u32]) -> Outcome
-    ensures { λ r. ⌜ r ≡ checkOf rng (now (items .entry)) (now (lower .entry)) (now (upper .entry)) ⌝ }
+    ensures { λ r. ⌜ answerOf r 0 ≡ decided (checkOf rng (now (items .entry)) (now (lower .entry)) (now (upper .entry))) (0 ∷ []) ⌝ }
 {
     if rng.is_zero() {
         return Outcome::Refused(Refusal::ZeroState);

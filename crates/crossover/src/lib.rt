@@ -32,7 +32,7 @@ pub fn choose_method(length: u32, amount: u32) -> Method
                 Method::Floyd
             }
         }
-        _ => {
+        163..=0xffff_ffff => {
             if below_ratio(length, amount, ratio_of(length)) {
                 Method::InPlace
             } else {

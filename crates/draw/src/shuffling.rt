@@ -3,8 +3,8 @@ use super::answers::drawn;
 use super::requests::Request;
 use super::slices::at_most;
 use super::slices::numbers;
+use parts::tail;
 use slice::partial_shuffle;
-use slice::tail;
 
 // Shuffles as many as `amount` to the end, and answers that tail.
 fn shuffle_in(r: Request, items: &mut [u32]) {

@@ -5,7 +5,7 @@ use mathlib.Core.List.{List, [], _∷_}
 use Prim.Native.Nat.{ℕ, _-_, _^_, min}
 use lib.Dec.{ltb}
 use lib.ListN.{length, drop}
-use Rattle.refusal.specs.Answer.{Answer, answerOf}
+use Rattle.refusal.specs.Answer.{Answer, done, declined, answerOf}
 use Rattle.refusal.specs.declared.Refusal.{Refusal}
 use Rattle.refusal.specs.declared.Refusal.the-variants.{TooLong, ZeroState}
 use Rattle.xoshiro256plusplus.specs.Generator.{zeroState}
@@ -13,8 +13,6 @@ use Rattle.xoshiro256plusplus.specs.declared.Xoshiro256PlusPlus.{Xoshiro256Plus
 use Rattle.uniform_int.specs.Draws.{draws}
 use Rattle.iterator.specs.Reservoir.{fillFront, fillFrom, fillOf, fillBounds}
 use Rattle.uniform_int.specs.declared.Reading.{Reading}
-use Rattle.refusal.specs.declared.Outcome.{Outcome}
-use Rattle.refusal.specs.declared.Outcome.the-variants.{Done, Refused}
 use Rattle.iterator.specs.declared.Filled.{Filled}
 
 -- ---- what the functions over the first items, and over those past the buffer's length, promise
@@ -42,13 +40,13 @@ ended r buf = record { answer = answerOf (r .outcome) (r .count); words = r .wor
 
 -- a refusal reads no word and changes nothing
 unfoldable pub refuses : Refusal → Xoshiro256PlusPlus → List ℕ → Filling
-refuses r g buf = record { answer = answerOf (Refused r) 0; words = 0; rng = g; buf = buf }
+refuses r g buf = record { answer = declined r; words = 0; rng = g; buf = buf }
 
 -- the reservoir with draws made one after another; where the items are fewer than the slots, there is no draw
 unfoldable pub fills : Xoshiro256PlusPlus → (items buf : List ℕ) → Filling
 fills g items buf =
     record {
-      answer = answerOf Done (min (length items) (length buf));
+      answer = done (min (length items) (length buf) ∷ []);
       words = draws (fillBounds (length buf) (length items)) g .words;
       rng = draws (fillBounds (length buf) (length items)) g .rng;
       buf = fillOf buf items (draws (fillBounds (length buf) (length items)) g .values);

@@ -1,8 +1,9 @@
 // Samples from a row of items that is read once, as in rand's `iterator.rs`.
+ghost use mathlib.Core.List.{List};
 ghost use mathlib.Core.Path.{_≡_};
-ghost use Prim.Native.Nat.{_-_, _^_, _≤_};
+ghost use Prim.Native.Nat.{ℕ, _-_, _^_, _≤_};
 ghost use lib.ListN.{length};
-ghost use Rattle.iterator.specs.Fill.{ended, fills, sampleFillOf};
+ghost use Rattle.iterator.specs.Fill.{ended, refuses, fills, sampleFillOf};
 use refusal::Outcome;
 use refusal::Refusal;
 use reservoir::fill_front;
@@ -19,9 +20,9 @@ pub struct Filled {
     pub rng: Xoshiro256PlusPlus,
 }
 
-// A refusal: nothing is read and no slot filled.
+// A refusal, whatever the buffer holds: nothing is read and no slot filled. The definition is `refuses`.
 fn refused(why: Refusal, rng: Xoshiro256PlusPlus) -> Filled
-    ensures { λ r. ⌜ r ≡ record { outcome = Outcome.Refused why; count = 0; words = 0; rng = rng } ⌝ }
+    ensures { λ r. ⌜ ((buf : List ℕ) → ended r buf ≡ refuses why rng buf) ⌝ }
 {
     Filled {
         outcome: Outcome::Refused(why),

@@ -1,9 +1,10 @@
-// What several calls do with slices: exchange two entries, copy a front, clip a place; and what it is to lend a part (`Lent`).
+// What several calls do with slices: exchange two entries, copy a front, clip a place; and the two calls that lend a part (`Lent`).
 ghost use mathlib.Core.List.{_++_};
 ghost use mathlib.Core.Path.{_≡_};
 ghost use Prim.Native.Nat.{_≤_, _<_, min};
 ghost use lib.ListN.{length, take, drop};
 ghost use Rattle.counting.specs.Lists.{swapAt};
+ghost use Rattle.parts.specs.Parts.{Lent};
 
 // Exchanges the entries at i and j.
 pub fn swap(items: &mut [u32], i: usize, j: usize)
@@ -34,4 +35,25 @@ pub fn clipped(n: u64, length: usize) -> usize
         return n as usize;
     }
     length
+}
+
+// Lends the part of the slice from place n on: the shuffled tail, where n is what a shuffle answered. Above the length it is empty. Never
+// declines, reads no word and copies nothing. `Lent` says which entries of the caller's slice the part is. Both are lent by `&`, so neither
+// changes, and nothing is left to say.
+pub fn tail(items: &[u32], n: u64) -> &[u32]
+    ensures { λ r. ⌜ Lent (items .entry) r (min n (length (now (items .entry)))) (drop n (now (items .entry))) ⌝ }
+{
+    let length = items.len();
+    let start = clipped(n, length);
+    &items[start..]
+}
+
+// Lends the part of the slice before place n: what a partial shuffle left unshuffled. Above the length it is the whole slice. As `tail`, it
+// never declines, reads no word and copies nothing, and neither slice changes (`Lent`).
+pub fn head(items: &[u32], n: u64) -> &[u32]
+    ensures { λ r. ⌜ Lent (items .entry) r 0 (take n (now (items .entry))) ⌝ }
+{
+    let length = items.len();
+    let end = clipped(n, length);
+    &items[..end]
 }

@@ -9,7 +9,7 @@ ghost use Rattle.weighted_index.specs.Weights.{mostWeights, firstAbove};
 ghost use Rattle.weighted_index.specs.Rising.{rises};
 ghost use Rattle.weighted_index.specs.Tables.{brokenTable};
 ghost use Rattle.pick.specs.Answers.{picked};
-ghost use Rattle.pick.specs.Pick.{choosing, pickOf};
+ghost use Rattle.pick.specs.Pick.{choosing, refusesPick, pickOf};
 use refusal::Refusal;
 use uniform_int::Draw;
 use uniform_int::UniformInt;
@@ -59,8 +59,8 @@ fn partition_point(sums: &[u32], n: usize, total: u32, c: u32) -> usize
     low + step_over(1, sums[low], c)
 }
 
-// A pick from a table that is known to be whole: `sample` without the check that reads all sums. Cost: a binary search of the sums.
-pub fn sample_whole(
+// A pick from a table that is known to be whole: `sample` after its checks. Cost: a binary search of the sums.
+fn sample_whole(
     rng: Xoshiro256PlusPlus,
     table: WeightedIndex,
     cumulative_weights: &[u32],
@@ -92,9 +92,9 @@ pub fn sample_whole(
     }
 }
 
-// A refusal that has read no word.
+// A refusal that has read no word: the definition `refusesPick`.
 fn refused_pick(why: Refusal, rng: Xoshiro256PlusPlus) -> Picked
-    ensures { λ r. ⌜ r ≡ record { answer = Choice.Refused why; words = 0; rng = rng } ⌝ }
+    ensures { λ r. ⌜ picked r ≡ refusesPick why rng ⌝ }
 {
     Picked {
         answer: Choice::Refused(why),

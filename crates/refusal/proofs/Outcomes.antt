@@ -1,10 +1,10 @@
--- The number of an outcome does not lean on its value, and the value stands alone; a refusal's number is never 0.
+-- The number of an outcome does not lean on its value; its one value, or 0 where it has none, is the count; a refusal's number is never 0.
 -- Assumes nothing.
 use mathlib.Core.Path.{_≡_, refl}
 use mathlib.Core.Bool.{false}
-use mathlib.Core.List.{[], _∷_}
-use Prim.Native.Nat.{ℕ}
+use Prim.Native.Nat.{ℕ, zero, suc}
 use lib.Dec.{eqb}
+use lib.ListN.{getD}
 use Rattle.refusal.specs.Answer.{answerOf}
 use Rattle.refusal.specs.Number.{number}
 use Rattle.refusal.specs.declared.Refusal.{Refusal}
@@ -16,9 +16,10 @@ pub number-of : (o : Outcome) (n : ℕ) → answerOf o n .number ≡ answerOf o 
 number-of Done n = refl
 number-of (Refused r) n = refl
 
-pub values-of : (o : Outcome) (n : ℕ) → answerOf o n .values ≡ n ∷ []
-values-of Done n = refl
-values-of (Refused r) n = refl
+pub value-of : (o : Outcome) (n : ℕ) → getD (answerOf o n .values) 0 0 ≡ n
+value-of Done n = refl
+value-of (Refused r) zero = refl
+value-of (Refused r) (suc n) = refl
 
 -- no refusal has the number of a call that was carried out
 pub refused-number : (r : Refusal) → eqb (number r) 0 ≡ false

@@ -1,6 +1,7 @@
 -- What a call answers, as a promise states it: a number and values. Every answer enum is read as one of these.
 use mathlib.Core.List.{List, [], _∷_}
-use Prim.Native.Nat.{ℕ}
+use mathlib.Core.Option.{Option, none, some}
+use Prim.Native.Nat.{ℕ, zero, suc}
 use Rattle.refusal.specs.Number.{number}
 use Rattle.refusal.specs.declared.Refusal.{Refusal}
 use Rattle.refusal.specs.declared.Outcome.{Outcome}
@@ -19,7 +20,19 @@ done vs = record { number = 0; values = vs }
 abbrev pub declined : Refusal → Answer
 declined r = record { number = number r; values = [] }
 
--- the number and the value of each case of an outcome: the value is a count or a place, which each call names
+-- declined for the cause that a check has found, or carried out with these values where it has found none
+abbrev pub decided : Option Refusal → List ℕ → Answer
+decided none vs = done vs
+decided (some why) vs = declined why
+
+-- what a refusal has left to count: no value where that is nothing
+abbrev pub counted : ℕ → List ℕ
+counted zero = []
+counted (suc n) = suc n ∷ []
+
+-- The number and the values of each case of an outcome, beside which a call has a count or a place, as its own page says. Where it is carried
+-- out that is the value. A refused call has no values, as everywhere, with one exception: refusal 13 of a sample has the count of the indices
+-- found, if there are any.
 abbrev pub answerOf : Outcome → ℕ → Answer
-answerOf Done value = record { number = 0; values = value ∷ [] }
-answerOf (Refused r) value = record { number = number r; values = value ∷ [] }
+answerOf Done value = done (value ∷ [])
+answerOf (Refused r) value = record { number = number r; values = counted value }

@@ -1,17 +1,16 @@
 -- What a shuffle leaves behind: the answer, the words read, the generator and the slice.
 use mathlib.Core.Bool.{cond}
-use mathlib.Core.List.{List}
+use mathlib.Core.List.{List, [], _∷_}
 use Prim.Native.Nat.{ℕ, _-_, _^_}
 use lib.Dec.{ltb}
 use lib.ListN.{length}
-use Rattle.refusal.specs.Answer.{Answer, answerOf}
+use Rattle.refusal.specs.Answer.{Answer, done, declined, answerOf}
 use Rattle.refusal.specs.declared.Refusal.{Refusal}
 use Rattle.refusal.specs.declared.Refusal.the-variants.{TooLong, ZeroState}
 use Rattle.xoshiro256plusplus.specs.Generator.{zeroState}
 use Rattle.xoshiro256plusplus.specs.declared.Xoshiro256PlusPlus.{Xoshiro256PlusPlus}
 use Rattle.uniform_int.specs.Draws.{draws}
 use Rattle.slice.specs.Shuffle.{shuffleOf, shuffleBounds}
-use Rattle.refusal.specs.declared.Outcome.the-variants.{Done, Refused}
 use Rattle.slice.specs.declared.Shuffled.{Shuffled}
 
 -- all that can be seen after the call; the answer's value is n, where the tail starts
@@ -26,13 +25,13 @@ ended r items = record { answer = answerOf (r .outcome) (r .n); words = r .words
 
 -- a refusal reads no word and changes nothing
 unfoldable pub refuses : Refusal → Xoshiro256PlusPlus → List ℕ → Shuffling
-refuses r g items = record { answer = answerOf (Refused r) 0; words = 0; rng = g; items = items }
+refuses r g items = record { answer = declined r; words = 0; rng = g; items = items }
 
 -- the items shuffled from place n to their end by chunks that are drawn one after another
 unfoldable pub shuffledFrom : ℕ → Xoshiro256PlusPlus → List ℕ → Shuffling
 shuffledFrom n g items =
     record {
-      answer = answerOf Done n;
+      answer = done (n ∷ []);
       words = draws (shuffleBounds n (length items)) g .words;
       rng = draws (shuffleBounds n (length items)) g .rng;
       items = shuffleOf n items (draws (shuffleBounds n (length items)) g .values);

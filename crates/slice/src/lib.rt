@@ -1,11 +1,10 @@
 // Shuffles of a slice, as in rand's `slice.rs`.
+ghost use mathlib.Core.List.{List};
 ghost use mathlib.Core.Path.{_≡_};
-ghost use Prim.Native.Nat.{_-_, _^_, _≤_, min};
-ghost use lib.ListN.{length, take, drop};
-ghost use Rattle.parts.specs.Parts.{Lent};
-ghost use Rattle.slice.specs.Shuffled.{ended, shuffledFrom, partialShuffleOf, wholeShuffleOf};
+ghost use Prim.Native.Nat.{ℕ, _-_, _^_, _≤_};
+ghost use lib.ListN.{length};
+ghost use Rattle.slice.specs.Shuffled.{ended, refuses, shuffledFrom, partialShuffleOf, wholeShuffleOf};
 use increasing_uniform::IncreasingUniform;
-use parts::clipped;
 use parts::swap;
 use refusal::Outcome;
 use refusal::Refusal;
@@ -19,9 +18,9 @@ pub struct Shuffled {
     pub rng: Xoshiro256PlusPlus,
 }
 
-// A refusal: nothing is read.
+// A refusal, whatever the items are: nothing is read. The definition is `refuses`.
 fn refused(refusal: Refusal, rng: Xoshiro256PlusPlus) -> Shuffled
-    ensures { λ r. ⌜ r ≡ record { outcome = Outcome.Refused refusal; n = 0; words = 0; rng = rng } ⌝ }
+    ensures { λ r. ⌜ ((items : List ℕ) → ended r items ≡ refuses refusal rng items) ⌝ }
 {
     Shuffled {
         outcome: Outcome::Refused(refusal),
@@ -66,8 +65,8 @@ fn shuffle_from(rng: Xoshiro256PlusPlus, items: &mut [u32], n: u64) -> Shuffled
     }
 }
 
-// Shuffles `amount` of the items to the end of the slice and answers n = max(0, length - amount), where that tail starts: `tail` and `head`
-// lend the parts. The head keeps the other items in an order that is not shuffled. Declines a generator whose state is all zero (12) and
+// Shuffles `amount` of the items to the end of the slice and answers n = max(0, length - amount), where that tail starts:
+// `parts::tail` and `parts::head` lend the two parts. The head keeps the other items in an order that is not shuffled. Declines a generator whose state is all zero (12) and
 // more than 2^32 - 2 items (10), and then reads nothing and leaves the slice as it is. As many exchanges as are asked for, and a bounded
 // draw for each chunk of them: 11 or fewer exchanges to a chunk. The definition is `partialShuffleOf`; each ordered tail of distinct items has
 // the same share of the lists of chunk values (`ShuffleShares`).
@@ -92,22 +91,4 @@ pub fn shuffle(rng: Xoshiro256PlusPlus, items: &mut [u32]) -> Shuffled
 {
     let length = items.len() as u64;
     partial_shuffle(rng, items, length)
-}
-
-// Lends the part of the slice from place n on: the shuffled tail, where n is what a shuffle answered. Above the length it is empty. Never
-// declines, reads nothing and copies nothing: `Lent` says which entries of the caller's slice the part is.
-pub fn tail(items: &mut [u32], n: u64) -> &mut [u32]
-    ensures { λ r. ⌜ Lent (items .entry) r (min n (length (now (items .entry)))) (drop n (now (items .entry))) ⌝ }
-{
-    let at = clipped(n, items.len());
-    &mut items[at..]
-}
-
-// Lends the part of the slice before place n: what a partial shuffle left unshuffled. Above the length it is the whole slice. Never
-// declines, reads nothing and copies nothing (`Lent`).
-pub fn head(items: &mut [u32], n: u64) -> &mut [u32]
-    ensures { λ r. ⌜ Lent (items .entry) r 0 (take n (now (items .entry))) ⌝ }
-{
-    let at = clipped(n, items.len());
-    &mut items[..at]
 }

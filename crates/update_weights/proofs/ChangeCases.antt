@@ -9,14 +9,14 @@ use native.Mathlib.Omega.{arith}
 use lib.Dec.{eqb}
 use lib.ListN.{length, getD}
 use borrow.Author.Tests.{lt-ltb, le-ltb, eq-eqb, ne-eqb, eqb-true, eqb-false}
-use Rattle.refusal.specs.Answer.{Answer, done, declined}
+use Rattle.refusal.specs.Answer.{Answer, done, declined, decided}
 use Rattle.refusal.specs.declared.Refusal.{Refusal}
 use Rattle.refusal.specs.declared.Refusal.the-variants.{InvalidTable, SliceTooShort, TooLong}
 use Rattle.weighted_index.specs.Weights.{mostWeights, total}
 use Rattle.weighted_index.specs.Tables.{heldSums, brokenTable, heldWeights}
-use Rattle.weighted_index.specs.Answers.{refuses}
+use Rattle.weighted_index.specs.Answers.{accepted, refuses}
 use Rattle.weighted_index.specs.New.{makes}
-use Rattle.update_weights.specs.Change.{replaced, itemsRefusal, listsRefusal, settled, updateOf, answerOfChecked, checkedAs, checkOf}
+use Rattle.update_weights.specs.Change.{replaced, itemsRefusal, listsRefusal, settled, updateOf, answerOfChecked, checkOf}
 use Rattle.weighted_index.specs.declared.answer.WeightedIndex.{WeightedIndex}
 use Rattle.update_weights.specs.declared.Checked.{Checked}
 use Rattle.update_weights.specs.declared.Checked.the-variants.{Total, Refused}
@@ -43,12 +43,12 @@ module _ (ws ps vs : List ℕ) where
 
 -- ---- what the items' checks answer
 
-refused-end : (o : Option Refusal) (n : ℕ) (why : Refusal) (ws l : List ℕ) → declined why ≡ checkedAs o n → settled o ws l ≡ refuses why l
+refused-end : (o : Option Refusal) (n : ℕ) (why : Refusal) (ws l : List ℕ) → declined why ≡ decided o (n ∷ []) → settled o ws l ≡ refuses why l
 unfolding refuses
 refused-end none n why ws l e = let z : _≡_ {A = ℕ} 0 1 = ap (λ (a : Answer). length (a .values)) e in absurd (omega arith)
 refused-end (some y) n why ws l e = ap (λ (a : Answer). record { answer = a; words = 0; sums = l }) (sym e)
 
-accepted-end : (o : Option Refusal) (n m : ℕ) → done (m ∷ []) ≡ checkedAs o n → (o ≡ none) × (n ≡ m)
+accepted-end : (o : Option Refusal) (n m : ℕ) → done (m ∷ []) ≡ decided o (n ∷ []) → (o ≡ none) × (n ≡ m)
 accepted-end none n m e = (refl, sym (ap (λ (a : Answer). getD (a .values) 0 0) e))
 accepted-end (some y) n m e = let z : _≡_ {A = ℕ} 1 0 = ap (λ (a : Answer). length (a .values)) e in absurd (omega arith)
 
@@ -101,6 +101,6 @@ module _ (t : WeightedIndex) (s ps vs : List ℕ) where
 
           -- as the code leaves it: the new total m, and s′ with the new sums
           pub changed : (m : ℕ) (s′ : List ℕ) → itemsRefusal held 0 ps vs ≡ none → total (replaced held ps vs) ≡ m → s′ ≡ heldSums (replaced held ps vs) s
-              → updateOf t s ps vs ≡ record { answer = done (t .count ∷ m ∷ []); words = 0; sums = s′ }
-          unfolding makes
+              → updateOf t s ps vs ≡ accepted (record { count = t .count; «total_weight» = m }) s′
+          unfolding makes accepted
           changed m s′ q n f = all-accepted q ∙ rw (size, n, f)

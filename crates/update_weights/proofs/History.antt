@@ -15,12 +15,12 @@ use Rattle.refusal.specs.declared.Refusal.{Refusal}
 use Rattle.refusal.specs.declared.Refusal.the-variants.{NoWeights, Overflow, InsufficientNonZero, SliceTooShort, TooLong}
 use Rattle.weighted_index.specs.Weights.{mostWeights, mostTotal, total, overflows, allZero, sumsFrom}
 use Rattle.weighted_index.specs.Tables.{tableOf, heldSums, heldWeights, brokenTable}
-use Rattle.weighted_index.specs.Answers.{Making, refuses}
+use Rattle.weighted_index.specs.Answers.{Making, accepted, refuses}
 use Rattle.weighted_index.specs.New.{makes, newOf}
 use Rattle.update_weights.specs.Change.{replaced, itemsRefusal, tooLong, listsRefusal, settled, updateOf}
 use Rattle.weighted_index.specs.Lookup.{weightAt, weightOf}
 use Rattle.weighted_index.specs.WholeTables.{TableOf}
-use Rattle.update_weights.specs.History.{Change, plainRefusal, plainAnswer, plainAfter, plainAnswers, plainWeights, Run, lastRecord, callsRun, plainRun, accepted, History, HistoryClaim}
+use Rattle.update_weights.specs.History.{Change, plainRefusal, plainAnswer, plainAfter, plainAnswers, plainWeights, Run, lastRecord, callsRun, plainRun, History, HistoryClaim}
 use Rattle.weighted_index.specs.declared.answer.WeightedIndex.{WeightedIndex}
 use Rattle.weighted_index.proofs.Totals.{sums-length, small-total, some-total}
 use Rattle.update_weights.proofs.Items.{refused-none, small, heavy, replaced-length}

@@ -6,7 +6,7 @@ use mathlib.Core.Option.{Option, none, some}
 use Prim.Native.Nat.{ℕ, suc}
 use lib.Dec.{ltb, leb, eqb}
 use lib.ListN.{length, set}
-use Rattle.refusal.specs.Answer.{Answer, done, declined}
+use Rattle.refusal.specs.Answer.{Answer, done, declined, decided}
 use Rattle.refusal.specs.declared.Refusal.{Refusal}
 use Rattle.refusal.specs.declared.Refusal.the-variants.{Overflow, InsufficientNonZero, PlacesNotIncreasing, PlaceOutOfRange, InvalidTable, SliceTooShort, TooLong}
 use Rattle.weighted_index.specs.Weights.{mostWeights, total, overflows, allZero}
@@ -66,12 +66,8 @@ answerOfChecked (checked.Total n) = done (n ∷ [])
 answerOfChecked (checked.Refused why) = declined why
 
 -- the total with all items replaced, or the first refusal
-abbrev pub checkedAs : Option Refusal → ℕ → Answer
-checkedAs none n = done (n ∷ [])
-checkedAs (some why) n = declined why
-
 unfoldable pub checkOf : (ws ps vs : List ℕ) → Answer
-checkOf ws ps vs = checkedAs (itemsRefusal ws 0 ps vs) (total (replaced ws ps vs))
+checkOf ws ps vs = decided (itemsRefusal ws 0 ps vs) (total (replaced ws ps vs) ∷ [])
 
 -- the sums may be written: the table is whole and no item is refused
 pub record Rewritable (t : WeightedIndex) (sums ps vs : List ℕ) : Type 0 where

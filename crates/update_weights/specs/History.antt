@@ -5,13 +5,13 @@ use mathlib.Core.List.{List, [], _∷_}
 use mathlib.Core.Option.{Option, none, some}
 use Prim.Native.Nat.{ℕ, _^_, _≤_, _<_}
 use lib.ListN.{length}
-use Rattle.refusal.specs.Answer.{done, declined}
+use Rattle.refusal.specs.Answer.{decided}
 use Rattle.refusal.specs.declared.Refusal.{Refusal}
 use Rattle.refusal.specs.declared.Refusal.the-variants.{TooLong}
 use Rattle.counting.specs.Lists.{Below}
 use Rattle.weighted_index.specs.Weights.{mostTotal, total}
 use Rattle.weighted_index.specs.Tables.{tableOf, heldSums}
-use Rattle.weighted_index.specs.Answers.{Reply, Making}
+use Rattle.weighted_index.specs.Answers.{Reply, Making, accepted}
 use Rattle.weighted_index.specs.New.{newOf}
 use Rattle.update_weights.specs.Change.{replaced, tooLong, listsRefusal, updateOf}
 use Rattle.weighted_index.specs.Lookup.{weightAt, weightOf}
@@ -30,8 +30,7 @@ plainRefusal ws c = cond (tooLong (length ws) (c .weights)) (some TooLong) (list
 
 -- what a change answers: the record of the table that the changed weights make, or the refusal's number
 abbrev pub plainReply : Option Refusal → (changed : List ℕ) → Reply
-plainReply none changed = record { answer = done (length changed ∷ total changed ∷ []); words = 0 }
-plainReply (some why) changed = record { answer = declined why; words = 0 }
+plainReply o changed = record { answer = decided o (length changed ∷ total changed ∷ []); words = 0 }
 
 -- the weights afterwards: a refused change replaces none
 abbrev pub plainNext : Option Refusal → (changed ws : List ℕ) → List ℕ
@@ -84,16 +83,12 @@ plainRun ws l cs = record { answers = plainAnswers ws cs; table = tableOf (plain
 
 -- ---- the claim
 
--- `new` accepted: it answered the record t and left the slice s
-unfoldable pub accepted : WeightedIndex → (s : List ℕ) → Making
-accepted t s = record { answer = done (t .count ∷ t .«total_weight» ∷ []); words = 0; sums = s }
-
 -- every weight of the changes is a u32
 abbrev pub Weights32 : List Change → Type 0
 Weights32 [] = Unit {0}
 Weights32 (c ∷ cs) = Below (2 ^ 32) (c .weights) × Weights32 cs
 
--- a new table of the weights ws, accepted with the slice l, and changes that follow it
+-- a new table of the weights ws, accepted with the slice l: it answered the record t and left the slice s; and changes that follow it
 pub record History (ws l : List ℕ) (t : WeightedIndex) (s : List ℕ) (cs : List Change) : Type 0 where
   pub starts : newOf ws l ≡ accepted t s
   pub weights : Below (2 ^ 32) ws

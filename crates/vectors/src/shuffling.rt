@@ -10,11 +10,11 @@ use super::slices::count_up;
 use super::slices::entries;
 use super::text::Numbers;
 use super::text::number;
+use parts::head;
+use parts::tail;
 use slice::Shuffled;
-use slice::head;
 use slice::partial_shuffle;
 use slice::shuffle;
-use slice::tail;
 
 // The number, n and the words.
 fn put_shuffled(s: Shuffled) {
@@ -25,7 +25,7 @@ fn put_shuffled(s: Shuffled) {
 }
 
 // The length and the hash of the tail from `at` on, and of the head before it.
-fn put_parts(items: &mut [u32], at: u64) {
+fn put_parts(items: &[u32], at: u64) {
     let last = tail(items, at);
     put(last.len() as u64);
     put(hash(last));

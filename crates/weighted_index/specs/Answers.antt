@@ -3,6 +3,7 @@ use mathlib.Core.List.{List, [], _∷_}
 use Prim.Native.Nat.{ℕ}
 use Rattle.refusal.specs.Answer.{Answer, done, declined}
 use Rattle.refusal.specs.declared.Refusal.{Refusal}
+use Rattle.weighted_index.specs.declared.answer.WeightedIndex.{WeightedIndex}
 use Rattle.weighted_index.specs.declared.answer.Made.{Made}
 use Rattle.weighted_index.specs.declared.answer.Made.the-variants as made
 use Rattle.weighted_index.specs.declared.answer.Outcome.{Outcome}
@@ -41,6 +42,10 @@ pub record Making : Type 0 where
 
 abbrev pub ended : Outcome → List ℕ → Making
 ended r sums = record { answer = answerOfMade (r .answer); words = r .words; sums = sums }
+
+-- a table was made: its record is answered, no word is read, and the slice holds these entries
+unfoldable pub accepted : WeightedIndex → List ℕ → Making
+accepted t sums = record { answer = done (t .count ∷ t .«total_weight» ∷ []); words = 0; sums = sums }
 
 -- a refusal reads no word and changes no sum
 unfoldable pub refuses : Refusal → List ℕ → Making

@@ -1,5 +1,8 @@
 // What the calls take and answer.
+ghost use mathlib.Core.List.{List};
 ghost use mathlib.Core.Path.{_≡_};
+ghost use Prim.Native.Nat.{ℕ};
+ghost use Rattle.weighted_index.specs.Answers.{ended, accepted, refuses};
 use refusal::Refusal;
 
 // A list or a table has at most so many weights: the definition `mostWeights`.
@@ -40,9 +43,9 @@ pub struct Lookup {
     pub words: u64,
 }
 
-// A table that is made.
+// A table that is made, whatever its sums are: the definition `accepted`.
 pub fn accepted(count: u64, total: u32) -> Outcome
-    ensures { λ r. ⌜ r ≡ record { answer = Made.Table (record { count = count; «total_weight» = total }); words = 0 } ⌝ }
+    ensures { λ r. ⌜ ((sums : List ℕ) → ended r sums ≡ accepted (record { count = count; «total_weight» = total }) sums) ⌝ }
 {
     let table = WeightedIndex {
         count: count,
@@ -54,9 +57,9 @@ pub fn accepted(count: u64, total: u32) -> Outcome
     }
 }
 
-// A table that is not made.
+// A table that is not made, whatever the sums are: the definition `refuses`.
 pub fn refused(why: Refusal) -> Outcome
-    ensures { λ r. ⌜ r ≡ record { answer = Made.Refused why; words = 0 } ⌝ }
+    ensures { λ r. ⌜ ((sums : List ℕ) → ended r sums ≡ refuses why sums) ⌝ }
 {
     Outcome {
         answer: Made::Refused(why),

@@ -1,14 +1,16 @@
 -- `choose` meets its contract: a refusal, one draw for a known count, or turn by turn. Assumes nothing.
-use mathlib.Core.Path.{_≡_, sym, _∙_}
+use mathlib.Core.Path.{_≡_, sym, ap, _∙_}
+use mathlib.Core.Option.{none}
 use native.Mathlib.Omega.{arith}
 use denote.Ref.{now}
 use lib.ListN.{length}
 use borrow.Author.Needs.{needs}
-use Rattle.refusal.specs.declared.Outcome.the-variants.{Done}
+use Rattle.refusal.specs.Answer.{answerOf}
+use Rattle.refusal.specs.declared.Outcome.{Outcome}
 use Rattle.coin_flipper.specs.Within.{start}
 use Rattle.choose.specs.Choose.{checkOf}
 use Rattle.choose.proofs.HintsChecked.{Hinted, hinted}
-use Rattle.choose.proofs.ChooseCases.{Good, passed, choose-refused, known, unknown}
+use Rattle.choose.proofs.ChooseCases.{Good, passed, told-good, choose-refused, known, unknown}
 use Rattle.choose.proofs.choose.Statement.{statement}
 use Rattle.choose.proofs.choose.Tie as tie
 
@@ -26,15 +28,15 @@ unfolding start
 returns c =
     let a = c .before .before .before .before .before .before .before .before .args in
     let why = c .before .before .checked .given in
-    rw (c .ended .ensures) (sym (choose-refused (a .rng) (now (a .items)) (now (a .lower)) (now (a .upper)) (a .budget) (why .0 .0) (sym (c .before .before .before .before .check .ensures) ∙ why .1)))
+    rw (c .ended .ensures) (sym (choose-refused (a .rng) (now (a .items)) (now (a .lower)) (now (a .upper)) (a .budget) (why .0 .0) (ap (λ (o : Outcome). answerOf o 0) (sym (why .1)) ∙ c .before .before .before .before .check .ensures)))
 
 enum-told : tie.Need-enum-told
 enum-told c = search needs
 
 -- no refusal applies
 module _ (c : tie.After-enum-told) where
-  done : checkOf (c .before .before .before .before .before .before .args .rng) (now (c .before .before .before .before .before .before .args .items)) (now (c .before .before .before .before .before .before .args .lower)) (now (c .before .before .before .before .before .before .args .upper)) ≡ Done
-  done = sym (c .before .before .check .ensures) ∙ c .enum-told .given .1
+  done : checkOf (c .before .before .before .before .before .before .args .rng) (now (c .before .before .before .before .before .before .args .items)) (now (c .before .before .before .before .before .before .args .lower)) (now (c .before .before .before .before .before .before .args .upper)) ≡ none
+  done = told-good _ _ _ _ (ap (λ (o : Outcome). answerOf o 0) (sym (c .enum-told .given .1)) ∙ c .before .before .check .ensures)
 
   good : Good (c .before .before .before .before .before .before .args .rng) (now (c .before .before .before .before .before .before .args .items)) (now (c .before .before .before .before .before .before .args .lower)) (now (c .before .before .before .before .before .before .args .upper))
   good = let a = c .before .before .before .before .before .before .args in passed (a .rng) (now (a .items)) (now (a .lower)) (now (a .upper)) done

@@ -1,13 +1,15 @@
 -- `choose_stable` meets its contract: a refusal, or `stable` of `ChooseCases`. Assumes nothing.
-use mathlib.Core.Path.{_≡_, sym, _∙_}
+use mathlib.Core.Path.{_≡_, sym, ap, _∙_}
 use mathlib.Core.List.{[]}
+use mathlib.Core.Option.{none}
 use native.Mathlib.Omega.{arith}
 use denote.Ref.{now}
 use borrow.Author.Needs.{needs}
-use Rattle.refusal.specs.declared.Outcome.the-variants.{Done}
+use Rattle.refusal.specs.Answer.{answerOf}
+use Rattle.refusal.specs.declared.Outcome.{Outcome}
 use Rattle.coin_flipper.specs.Within.{start}
 use Rattle.choose.specs.Choose.{checkOf}
-use Rattle.choose.proofs.ChooseCases.{passed, stable-refused, stable}
+use Rattle.choose.proofs.ChooseCases.{passed, told-good, stable-refused, stable}
 use Rattle.choose.proofs.StableTurns.{unhinted}
 use Rattle.choose.proofs.choose_stable.Statement.{statement}
 use Rattle.choose.proofs.choose_stable.Tie as tie
@@ -26,15 +28,15 @@ unfolding start
 returns c =
     let a = c .before .before .before .before .before .before .before .before .args in
     let why = c .before .before .checked .given in
-    rw (c .ended .ensures) (sym (stable-refused (a .rng) (now (a .items)) (now (a .lower)) (now (a .upper)) (a .budget) (why .0 .0) (sym (c .before .before .before .before .check .ensures) ∙ why .1)))
+    rw (c .ended .ensures) (sym (stable-refused (a .rng) (now (a .items)) (now (a .lower)) (now (a .upper)) (a .budget) (why .0 .0) (ap (λ (o : Outcome). answerOf o 0) (sym (why .1)) ∙ c .before .before .before .before .check .ensures)))
 
 enum-told : tie.Need-enum-told
 enum-told c = search needs
 
 -- no refusal applies
 done : (c : tie.After-enum-told)
-    → checkOf (c .before .before .before .before .before .before .args .rng) (now (c .before .before .before .before .before .before .args .items)) (now (c .before .before .before .before .before .before .args .lower)) (now (c .before .before .before .before .before .before .args .upper)) ≡ Done
-done c = sym (c .before .before .check .ensures) ∙ c .enum-told .given .1
+    → checkOf (c .before .before .before .before .before .before .args .rng) (now (c .before .before .before .before .before .before .args .items)) (now (c .before .before .before .before .before .before .args .lower)) (now (c .before .before .before .before .before .before .args .upper)) ≡ none
+done c = told-good _ _ _ _ (ap (λ (o : Outcome). answerOf o 0) (sym (c .enum-told .given .1)) ∙ c .before .before .check .ensures)
 
 slice-aggregate-choose-by-hints : tie.Need-slice-aggregate-choose-by-hints
 slice-aggregate-choose-by-hints c = search needs

@@ -2,7 +2,6 @@
 use mathlib.Core.Path.{sym, _∙_}
 use native.Mathlib.Omega.{arith}
 use denote.Ref.{now}
-use Rattle.iterator.specs.Fill.{refuses}
 use Rattle.iterator.proofs.Cases.{zero-state, too-long, good}
 use borrow.Author.Needs.{needs}
 use Rattle.iterator.proofs.sample_fill.Statement.{statement}
@@ -15,21 +14,19 @@ refused-requires : tie.Need-refused-requires
 refused-requires c κs = search needs
 
 returns : tie.Need-returns
-unfolding refuses
 returns c =
     let a = c .before .before .before .before .before .args in
     let zero = sym (c .before .before .is-zero .ensures) ∙ c .before .if1 .taken in
-    rw (c .refused .ensures) (sym (zero-state (a .rng) (now (a .items)) (now (a .buf)) zero))
+    c .refused .ensures (now (a .buf)) ∙ sym (zero-state (a .rng) (now (a .items)) (now (a .buf)) zero)
 
 refused-requires-2 : tie.Need-refused-requires-2
 refused-requires-2 c κs = search needs
 
 returns-2 : tie.Need-returns-2
-unfolding refuses
 returns-2 c =
     let a = c .before .before .before .before .before .before .args in
     let alive = sym (c .before .before .before .is-zero .ensures) ∙ c .before .before .if1 .left in
-    rw (c .refused2 .ensures) (sym (too-long (a .rng) (now (a .items)) (now (a .buf)) alive (omega arith)))
+    c .refused2 .ensures (now (a .buf)) ∙ sym (too-long (a .rng) (now (a .items)) (now (a .buf)) alive (omega arith))
 
 fill-requires : tie.Need-fill-requires
 fill-requires c κs = search needs

@@ -1,7 +1,6 @@
 -- `sample` meets its contract: a law for each case of the definition. Assumes nothing.
 use mathlib.Core.Path.{sym, _∙_}
 use denote.Ref.{now}
-use Rattle.pick.specs.Pick.{refusesPick}
 use Rattle.pick.proofs.PickCases.{zero-state, too-long, invalid, goes}
 use borrow.Author.Needs.{needs}
 use Rattle.pick.proofs.sample.Statement.{statement}
@@ -14,20 +13,18 @@ refused-pick-requires : tie.Need-refused-pick-requires
 refused-pick-requires c κs = search needs
 
 returns : tie.Need-returns
-unfolding refusesPick
 returns c =
     let a = c .before .before .before .before .args in
-    rw (c .refused-pick .ensures) (sym (zero-state (a .rng) (a .table) (now (a .cumulative-weights)) (a .budget) (sym (c .before .before .is-zero .ensures) ∙ c .before .if1 .taken)))
+    c .refused-pick .ensures ∙ sym (zero-state (a .rng) (a .table) (now (a .cumulative-weights)) (a .budget) (sym (c .before .before .is-zero .ensures) ∙ c .before .if1 .taken))
 
 refused-pick-requires-2 : tie.Need-refused-pick-requires-2
 refused-pick-requires-2 c κs = search needs
 
 returns-2 : tie.Need-returns-2
-unfolding refusesPick
 returns-2 c =
     let a = c .before .before .before .before .before .before .args in
     let alive = sym (c .before .before .before .before .is-zero .ensures) ∙ c .before .before .before .if1 .left in
-    rw (c .refused-pick2 .ensures) (sym (too-long (a .rng) (a .table) (now (a .cumulative-weights)) (a .budget) alive (c .before .if2 .taken)))
+    c .refused-pick2 .ensures ∙ sym (too-long (a .rng) (a .table) (now (a .cumulative-weights)) (a .budget) alive (c .before .if2 .taken))
 
 is-broken-requires : tie.Need-is-broken-requires
 is-broken-requires c κs = search needs
@@ -36,11 +33,10 @@ refused-pick-requires-3 : tie.Need-refused-pick-requires-3
 refused-pick-requires-3 c κs = search needs
 
 returns-3 : tie.Need-returns-3
-unfolding refusesPick
 returns-3 c =
     let a = c .before .before .before .before .before .before .before .before .args in
     let alive = sym (c .before .before .before .before .before .before .is-zero .ensures) ∙ c .before .before .before .before .before .if1 .left in
-    rw (c .refused-pick3 .ensures) (sym (invalid (a .rng) (a .table) (now (a .cumulative-weights)) (a .budget) alive (c .before .before .before .if2 .left) (sym (c .before .before .is-broken .ensures) ∙ c .before .if3 .taken)))
+    c .refused-pick3 .ensures ∙ sym (invalid (a .rng) (a .table) (now (a .cumulative-weights)) (a .budget) alive (c .before .before .before .if2 .left) (sym (c .before .before .is-broken .ensures) ∙ c .before .if3 .taken))
 
 sample-whole-requires : tie.Need-sample-whole-requires
 sample-whole-requires c κs = (c .before .before .if2 .left, sym (c .before .is-broken .ensures) ∙ c .if3 .left)

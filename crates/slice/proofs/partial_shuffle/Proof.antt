@@ -3,8 +3,7 @@ use mathlib.Core.Path.{sym, ap, _∙_}
 use Prim.Native.Nat.{ℕ}
 use native.Mathlib.Omega.{arith}
 use denote.Ref.{now}
-use Rattle.slice.specs.Shuffled.{refuses, ended, shuffledFrom}
-use Rattle.slice.specs.declared.Shuffled.{Shuffled}
+use Rattle.slice.specs.Shuffled.{shuffledFrom}
 use Rattle.slice.proofs.Cases.{zero-state, too-long, shuffled}
 use borrow.Author.Needs.{needs}
 use Rattle.slice.proofs.partial_shuffle.Statement.{statement}
@@ -17,21 +16,19 @@ refused-requires : tie.Need-refused-requires
 refused-requires c κs = search needs
 
 returns : tie.Need-returns
-unfolding refuses
 returns c =
     let a = c .before .before .before .before .args in
     let z = sym (c .before .before .is-zero .ensures) ∙ c .before .if1 .taken in
-    ap (λ (r : Shuffled). ended r (now (a .items))) (c .refused .ensures) ∙ sym (zero-state (a .amount) (a .rng) (now (a .items)) z)
+    c .refused .ensures (now (a .items)) ∙ sym (zero-state (a .amount) (a .rng) (now (a .items)) z)
 
 refused-requires-2 : tie.Need-refused-requires-2
 refused-requires-2 c κs = search needs
 
 returns-2 : tie.Need-returns-2
-unfolding refuses
 returns-2 c =
     let a = c .before .before .before .before .before .args in
     let z = sym (c .before .before .before .is-zero .ensures) ∙ c .before .before .if1 .left in
-    ap (λ (r : Shuffled). ended r (now (a .items))) (c .refused2 .ensures) ∙ sym (too-long (a .amount) (a .rng) (now (a .items)) z (omega arith))
+    c .refused2 .ensures (now (a .items)) ∙ sym (too-long (a .amount) (a .rng) (now (a .items)) z (omega arith))
 
 tail-start-requires : tie.Need-tail-start-requires
 tail-start-requires c κs = search needs

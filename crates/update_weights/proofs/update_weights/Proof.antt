@@ -1,7 +1,6 @@
 -- `update_weights` meets its contract: a law for each case of the definition. Assumes nothing.
 use mathlib.Core.Path.{sym, _∙_}
 use denote.Ref.{now}
-use Rattle.weighted_index.specs.Answers.{refuses}
 use Rattle.weighted_index.specs.Tables.{heldWeights}
 use Rattle.update_weights.proofs.ChangeCases.{too-long, list-too-long, invalid, too-short, item-refused, items-accepted, changed}
 use borrow.Author.Needs.{needs}
@@ -12,19 +11,17 @@ refused-requires : tie.Need-refused-requires
 refused-requires c κs = search needs
 
 returns : tie.Need-returns
-unfolding refuses
 returns c =
     let a = c .before .before .before .before .before .args in
-    rw (c .refused .ensures) (sym (too-long (a .table) (now (a .cumulative-weights)) (now (a .places)) (now (a .weights)) (c .before .if1 .taken)))
+    c .refused .ensures (now (a .cumulative-weights)) ∙ sym (too-long (a .table) (now (a .cumulative-weights)) (now (a .places)) (now (a .weights)) (c .before .if1 .taken))
 
 refused-requires-2 : tie.Need-refused-requires-2
 refused-requires-2 c κs = search needs
 
 returns-2 : tie.Need-returns-2
-unfolding refuses
 returns-2 c =
     let a = c .before .before .before .before .before .before .args in
-    rw (c .refused2 .ensures) (sym (list-too-long (a .table) (now (a .cumulative-weights)) (now (a .places)) (now (a .weights)) (c .before .before .if1 .left) (c .before .if2 .taken)))
+    c .refused2 .ensures (now (a .cumulative-weights)) ∙ sym (list-too-long (a .table) (now (a .cumulative-weights)) (now (a .places)) (now (a .weights)) (c .before .before .if1 .left) (c .before .if2 .taken))
 
 is-broken-requires : tie.Need-is-broken-requires
 is-broken-requires c κs = search needs
@@ -36,10 +33,9 @@ same-length : tie.Need-same-length
 same-length c = search needs
 
 returns-3 : tie.Need-returns-3
-unfolding refuses
 returns-3 c =
     let a = c .before .before .before .before .before .before .before .before .before .args in
-    rw (c .refused3 .ensures) (sym (invalid (a .table) (now (a .cumulative-weights)) (now (a .places)) (now (a .weights)) (c .before .before .before .before .before .if1 .left) (c .before .before .before .before .if2 .left) (sym (c .before .before .is-broken .ensures) ∙ c .before .if3 .taken)))
+    c .refused3 .ensures (now (a .cumulative-weights)) ∙ sym (invalid (a .table) (now (a .cumulative-weights)) (now (a .places)) (now (a .weights)) (c .before .before .before .before .before .if1 .left) (c .before .before .before .before .if2 .left) (sym (c .before .before .is-broken .ensures) ∙ c .before .if3 .taken))
 
 refused-requires-4 : tie.Need-refused-requires-4
 refused-requires-4 c κs = search needs
@@ -48,11 +44,10 @@ same-length-2 : tie.Need-same-length-2
 same-length-2 c = search needs
 
 returns-4 : tie.Need-returns-4
-unfolding refuses
 returns-4 c =
     let a = c .before .before .before .before .before .before .before .before .before .before .args in
     let whole = sym (c .before .before .before .is-broken .ensures) ∙ c .before .before .if3 .left in
-    rw (c .refused4 .ensures) (sym (too-short (a .table) (now (a .cumulative-weights)) (now (a .places)) (now (a .weights)) (c .before .before .before .before .before .before .if1 .left) (c .before .before .before .before .before .if2 .left) whole (c .before .if4 .taken)))
+    c .refused4 .ensures (now (a .cumulative-weights)) ∙ sym (too-short (a .table) (now (a .cumulative-weights)) (now (a .places)) (now (a .weights)) (c .before .before .before .before .before .before .if1 .left) (c .before .before .before .before .before .if2 .left) whole (c .before .if4 .taken))
 
 check-items-requires : tie.Need-check-items-requires
 check-items-requires c κs = (sym (c .before .before .before .is-broken .ensures) ∙ c .before .before .if3 .left, c .before .if4 .left)
@@ -84,14 +79,13 @@ same-length-3 : tie.Need-same-length-3
 same-length-3 c = search needs
 
 returns-5 : tie.Need-returns-5
-unfolding refuses
 returns-5 c =
     let a = c .before .before .before .before .before .before .before .before .before .before .before .before .before .before .before .args in
     let whole = sym (c .before .before .before .before .before .before .before .before .is-broken .ensures) ∙ c .before .before .before .before .before .before .before .if3 .left in
     let k = c .before .before .before .before .check-items in
     let why = c .before .before .checked .given in
-    rw (c .refused5 .ensures)
-    (sym (item-refused (a .table) (now (a .cumulative-weights)) (now (a .places)) (now (a .weights)) (c .before .before .before .before .before .before .before .before .before .before .before .if1 .left) (c .before .before .before .before .before .before .before .before .before .before .if2 .left) whole (c .before .before .before .before .before .before .if4 .left) (k .result) (why .0 .0) (k .ensures) (why .1)))
+    c .refused5 .ensures (now (a .cumulative-weights))
+    ∙ sym (item-refused (a .table) (now (a .cumulative-weights)) (now (a .places)) (now (a .weights)) (c .before .before .before .before .before .before .before .before .before .before .before .if1 .left) (c .before .before .before .before .before .before .before .before .before .before .if2 .left) whole (c .before .before .before .before .before .before .if4 .left) (k .result) (why .0 .0) (k .ensures) (why .1))
 
 same-length-4 : tie.Need-same-length-4
 same-length-4 c = search needs
@@ -103,8 +97,8 @@ returns-6 c =
     let k = c .before .before .before .before .before .before .before .before .check-items in
     let m = c .before .before .before .before .before .before .checked2 .given in
     let e = items-accepted (heldWeights (a .table) (now (a .cumulative-weights))) (now (a .places)) (now (a .weights)) (k .result) (m .0 .0) (k .ensures) (m .1) in
-    rw (c .accepted .ensures)
-    (sym (changed (a .table) (now (a .cumulative-weights)) (now (a .places)) (now (a .weights)) (c .before .before .before .before .before .before .before .before .before .before .before .before .before .before .before .if1 .left) (c .before .before .before .before .before .before .before .before .before .before .before .before .before .before .if2 .left) whole (c .before .before .before .before .before .before .before .before .before .before .if4 .left) (m .0 .0) _ (e .0) (e .1) (c .before .before .before .rewrite .ensures)))
+    c .accepted .ensures _
+    ∙ sym (changed (a .table) (now (a .cumulative-weights)) (now (a .places)) (now (a .weights)) (c .before .before .before .before .before .before .before .before .before .before .before .before .before .before .before .if1 .left) (c .before .before .before .before .before .before .before .before .before .before .before .before .before .before .if2 .left) whole (c .before .before .before .before .before .before .before .before .before .before .if4 .left) (m .0 .0) _ (e .0) (e .1) (c .before .before .before .rewrite .ensures))
 
 pub update-weights-spec : {M : Type 1} → statement M
 update-weights-spec =

@@ -2,7 +2,7 @@
 use mathlib.Core.Path.{sym, _∙_}
 use native.Mathlib.Omega.{arith}
 use denote.Ref.{now}
-use Rattle.weighted_index.specs.Answers.{refuses}
+use Rattle.weighted_index.specs.Answers.{accepted}
 use Rattle.weighted_index.specs.New.{makes}
 use Rattle.weighted_index.proofs.NewCases.{too-long, no-weights, too-short, overflow, zero-weights, table-made}
 use borrow.Author.Needs.{needs}
@@ -13,19 +13,17 @@ refused-requires : tie.Need-refused-requires
 refused-requires c κs = search needs
 
 returns : tie.Need-returns
-unfolding refuses
 returns c =
     let a = c .before .before .before .before .args in
-    rw (c .refused .ensures) (sym (too-long (now (a .weights)) (now (a .cumulative-weights)) (c .before .if1 .taken)))
+    c .refused .ensures (now (a .cumulative-weights)) ∙ sym (too-long (now (a .weights)) (now (a .cumulative-weights)) (c .before .if1 .taken))
 
 refused-requires-2 : tie.Need-refused-requires-2
 refused-requires-2 c κs = search needs
 
 returns-2 : tie.Need-returns-2
-unfolding refuses
 returns-2 c =
     let a = c .before .before .before .before .before .args in
-    rw (c .refused2 .ensures) (sym (no-weights (now (a .weights)) (now (a .cumulative-weights)) (c .before .before .if1 .left) (c .before .if2 .taken)))
+    c .refused2 .ensures (now (a .cumulative-weights)) ∙ sym (no-weights (now (a .weights)) (now (a .cumulative-weights)) (c .before .before .if1 .left) (c .before .if2 .taken))
 
 sub-if3 : tie.Need-sub-if3
 sub-if3 c = search needs
@@ -34,10 +32,9 @@ refused-requires-3 : tie.Need-refused-requires-3
 refused-requires-3 c κs = search needs
 
 returns-3 : tie.Need-returns-3
-unfolding refuses
 returns-3 c =
     let a = c .before .before .before .before .before .before .args in
-    rw (c .refused3 .ensures) (sym (too-short (now (a .weights)) (now (a .cumulative-weights)) (c .before .before .before .if1 .left) (c .before .before .if2 .left) (c .before .if3 .taken)))
+    c .refused3 .ensures (now (a .cumulative-weights)) ∙ sym (too-short (now (a .weights)) (now (a .cumulative-weights)) (c .before .before .before .if1 .left) (c .before .before .if2 .left) (c .before .if3 .taken))
 
 sum-requires : tie.Need-sum-requires
 sum-requires c κs = search needs
@@ -46,21 +43,19 @@ refused-requires-4 : tie.Need-refused-requires-4
 refused-requires-4 c κs = search needs
 
 returns-4 : tie.Need-returns-4
-unfolding refuses
 returns-4 c =
     let a = c .before .before .before .before .before .before .before .before .args in
     let all = c .before .before .sum .ensures in
-    rw (c .refused4 .ensures) (sym (overflow (now (a .weights)) (now (a .cumulative-weights)) (c .before .before .before .before .before .if1 .left) (c .before .before .before .before .if2 .left) (c .before .before .before .if3 .left) (omega (arith, c .before .if4 .taken, all))))
+    c .refused4 .ensures (now (a .cumulative-weights)) ∙ sym (overflow (now (a .weights)) (now (a .cumulative-weights)) (c .before .before .before .before .before .if1 .left) (c .before .before .before .before .if2 .left) (c .before .before .before .if3 .left) (omega (arith, c .before .if4 .taken, all)))
 
 refused-requires-5 : tie.Need-refused-requires-5
 refused-requires-5 c κs = search needs
 
 returns-5 : tie.Need-returns-5
-unfolding refuses
 returns-5 c =
     let a = c .before .before .before .before .before .before .before .before .before .args in
     let all = c .before .before .before .sum .ensures in
-    rw (c .refused5 .ensures) (sym (zero-weights (now (a .weights)) (now (a .cumulative-weights)) (c .before .before .before .before .before .before .if1 .left) (c .before .before .before .before .before .if2 .left) (c .before .before .before .before .if3 .left) (sym all ∙ c .before .if5 .taken)))
+    c .refused5 .ensures (now (a .cumulative-weights)) ∙ sym (zero-weights (now (a .weights)) (now (a .cumulative-weights)) (c .before .before .before .before .before .before .if1 .left) (c .before .before .before .before .before .if2 .left) (c .before .before .before .before .if3 .left) (sym all ∙ c .before .if5 .taken))
 
 cast-total : tie.Need-cast-total
 cast-total c = search needs
@@ -75,12 +70,13 @@ same-length : tie.Need-same-length
 same-length c = search needs
 
 returns-6 : tie.Need-returns-6
-unfolding makes
+unfolding makes accepted
 returns-6 c =
     let a = c .before .before .before .before .before .before .before .before .before .before .before .before .before .args in
     let all = c .before .before .before .before .before .before .before .sum .ensures in
     let some = c .before .before .before .before .before .if5 .left in
-    rw (c .accepted .ensures, c .before .before .before .write-sums .ensures, all)
+    c .accepted .ensures _
+    ∙ rw (c .before .before .before .write-sums .ensures, all)
     (sym (table-made (now (a .weights)) (now (a .cumulative-weights)) (c .before .before .before .before .before .before .before .before .before .before .if1 .left) (c .before .before .before .before .before .before .before .before .before .if2 .left) (c .before .before .before .before .before .before .before .before .if3 .left) (omega (arith, c .before .before .before .before .before .before .if4 .left, all)) (omega (arith, some, all))))
 
 pub new-spec : {M : Type 1} → statement M

@@ -2,16 +2,16 @@
 use native.Mathlib.Omega.{arith}
 use lib.ListN.{length-take}
 use denote.Ref.{now}
 use Rattle.parts.proofs.Parts.{take-clipped, at-start}
 use borrow.Author.Needs.{needs}
-use Rattle.slice.proofs.head.Statement.{statement}
-use Rattle.slice.proofs.head.Tie as tie
+use Rattle.parts.proofs.head.Statement.{statement}
+use Rattle.parts.proofs.head.Tie as tie
 
 clipped-requires : tie.Need-clipped-requires
 clipped-requires c κs = search needs
 
 slice-aggregate-result : tie.Need-slice-aggregate-result
-slice-aggregate-result c = omega (arith, length-take (c .before .clipped .result) (now (c .before .before .before .args .items)))
+slice-aggregate-result c = rw (length-take _ _) (omega arith)
 
 returns : tie.Need-returns
 returns c =
