@@ -5,14 +5,14 @@ use mathlib.Core.Bool.{Bool, true, false, cond}
 use mathlib.Core.Logic.{⊎-elim}
 use mathlib.Core.List.{List, [], _∷_}
 use mathlib.Core.Option.{Option, none, some}
-use Prim.Native.Nat.{ℕ, zero, suc, _+_, _-_, _^_}
+use Prim.Native.Nat.{ℕ, zero, suc, _+_, _-_, _^_, _≤_}
 use native.Mathlib.Omega.{arith}
 use lib.Dec.{ltb, eqb}
 use lib.ListN.{length, getD}
 use Rattle.refusal.specs.Answer.{Answer, done, declined}
 use Rattle.refusal.specs.Number.{number}
 use Rattle.refusal.specs.declared.Refusal.{Refusal}
-use Rattle.refusal.specs.declared.Refusal.the-variants.{TooLong, InvalidHints, ZeroState}
+use Rattle.refusal.specs.declared.Refusal.the-variants.{TooLong, InvalidHints, ZeroState, BudgetExhausted}
 use Rattle.xoshiro256plusplus.specs.Generator.{zeroState, steps}
 use Rattle.xoshiro256plusplus.specs.declared.Xoshiro256PlusPlus.{Xoshiro256PlusPlus}
 use Rattle.xoshiro256plusplus.proofs.Laws.{steps-zero}
@@ -25,8 +25,13 @@ use Rattle.choose.specs.Hints.{hintsHold}
 use Rattle.choose.specs.Turns.{ending, next, after, given, taking, byCoin, drawing, byDraw}
 use Rattle.choose.specs.Stable.{stableFrom}
 use Rattle.choose.specs.Choose.{exactly, turnOf, drawnLast, chooseFrom, checkOf, chooseOf, chooseStableOf}
-use Rattle.choose.specs.Choosing.{Reads}
 use Rattle.choose.proofs.ChooseCases.{told, choose-refused, stable-refused, stable}
+
+-- the generator is the one after so many words, they are within the budget, and 13 is the answer only where the budget is used up
+pub record Reads (g : Xoshiro256PlusPlus) (budget : ℕ) (d : Drawing) : Type 0 where
+  pub rng : d .rng ≡ steps (d .words) g
+  pub few : d .words ≤ budget
+  pub spent : d .answer .number ≡ number BudgetExhausted → d .words ≡ budget
 
 never : (a : Answer) → a .number ≡ 0 → a .number ≡ 13 → ⊥
 never a e f = omega arith

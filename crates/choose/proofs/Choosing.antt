@@ -3,7 +3,6 @@
 use Rattle.choose.specs.Choosing.{Choosing}
 use Rattle.choose.proofs.ChooseCases.{stable}
 use Rattle.choose.proofs.NoneExactly.{choose-none, stable-none, choose-empty, stable-empty}
-use Rattle.choose.proofs.ChoiceWords.{choose-reads, stable-reads}
 
 pub choosing : Choosing
 choosing =
@@ -13,6 +12,4 @@ choosing =
       stable-none = stable-none;
       choose-empty = choose-empty;
       stable-empty = stable-empty;
-      choose-reads = choose-reads;
-      stable-reads = stable-reads;
     }

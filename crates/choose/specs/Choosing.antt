@@ -2,23 +2,12 @@
 use mathlib.Core.Path.{_≡_}
 use mathlib.Core.List.{List, []}
 use mathlib.Core.Option.{none}
-use Prim.Native.Nat.{ℕ, _≤_}
+use Prim.Native.Nat.{ℕ}
 use Rattle.refusal.specs.Answer.{done}
-use Rattle.refusal.specs.Number.{number}
-use Rattle.refusal.specs.declared.Refusal.the-variants.{BudgetExhausted}
-use Rattle.xoshiro256plusplus.specs.Generator.{steps}
 use Rattle.xoshiro256plusplus.specs.declared.Xoshiro256PlusPlus.{Xoshiro256PlusPlus}
-use Rattle.uniform_int.specs.Rejecting.{Drawing}
 use Rattle.coin_flipper.specs.Within.{start}
 use Rattle.choose.specs.Stable.{stableFrom}
 use Rattle.choose.specs.Choose.{checkOf, chooseOf, chooseStableOf}
-
--- What a call has read: the generator that it hands back is the one after so many words, they are within the budget, and 13 is the answer
--- only where the budget is used up.
-pub record Reads (g : Xoshiro256PlusPlus) (budget : ℕ) (d : Drawing) : Type 0 where
-  pub rng : d .rng ≡ steps (d .words) g
-  pub few : d .words ≤ budget
-  pub spent : d .answer .number ≡ number BudgetExhausted → d .words ≡ budget
 
 pub record Choosing : Type 0 where
   -- the stable choice is one-over-(p + 1) for each place p in order, whatever the hints are that the call takes
@@ -34,6 +23,3 @@ pub record Choosing : Type 0 where
       → chooseOf g [] lower upper budget ≡ record { answer = done []; words = 0; rng = g }
   pub stable-empty : (g : Xoshiro256PlusPlus) (lower upper : List ℕ) (budget : ℕ) → checkOf g [] lower upper ≡ none
       → chooseStableOf g [] lower upper budget ≡ record { answer = done []; words = 0; rng = g }
-  -- every answer, a refusal too, hands back the generator after the words that it has read
-  pub choose-reads : (g : Xoshiro256PlusPlus) (items lower upper : List ℕ) (budget : ℕ) → Reads g budget (chooseOf g items lower upper budget)
-  pub stable-reads : (g : Xoshiro256PlusPlus) (items lower upper : List ℕ) (budget : ℕ) → Reads g budget (chooseStableOf g items lower upper budget)
