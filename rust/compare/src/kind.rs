@@ -79,6 +79,9 @@ impl AddAssign for Tally {
 
 /// A kind as a line in the program's table.
 pub struct Entry {
+    /// The kind's name.
+    #[cfg(test)]
+    pub name: &'static str,
     /// The kind's faults.
     pub faults: &'static [&'static str],
     /// The kind's parts of the time.
@@ -94,6 +97,8 @@ impl Entry {
     /// The line of kind `K`.
     pub const fn of<K: Kind>() -> Self {
         Self {
+            #[cfg(test)]
+            name: K::NAME,
             faults: K::FAULTS,
             parts: K::PARTS,
             run: run::<K>,

@@ -81,7 +81,7 @@ fn run(arguments: &Arguments) -> Result<Tally, String> {
         sum += (entry.run)(arguments, &arguments.bound(entry.parts, all));
     }
     match program {
-        Some(program) if arguments.wants(&program::FAULTS.map(|(name, _)| name)) => {
+        Some(program) if arguments.wants(&program::faults()) => {
             sum += program::run(&program, arguments, &arguments.bound(lines, all));
         }
         Some(_) => {}
@@ -90,18 +90,30 @@ fn run(arguments: &Arguments) -> Result<Tally, String> {
     Ok(sum)
 }
 
-/// All faults that can be planted.
+/// All faults that can be planted. One that several kinds can have is there once.
 fn faults() -> Faults {
     let boundary = KINDS.iter().flat_map(|entry| entry.faults).copied();
     Faults {
-        boundary: boundary.collect(),
-        program: program::FAULTS.map(|(name, _)| name).to_vec(),
+        boundary: each_once(boundary),
+        program: each_once(program::faults()),
     }
+}
+
+fn each_once(names: impl IntoIterator<Item = &'static str>) -> Vec<&'static str> {
+    let mut found = Vec::new();
+    for name in names {
+        if !found.contains(&name) {
+            found.push(name);
+        }
+    }
+    found
 }
 
 fn usage(faults: &Faults) -> String {
     let boundary = faults.boundary.join(", ");
-    let program = faults.program.join(", ");
+    let program = faults.program.iter().copied();
+    let program = program.filter(|name| !faults.boundary.contains(name));
+    let program = program.collect::<Vec<_>>().join(", ");
     format!("{USAGE}\nfaults to plant: {boundary}; with --program: {program}")
 }
 
@@ -112,10 +124,11 @@ mod tests {
     /// Random inputs in which a fault must show.
     const INPUTS: usize = 50_000;
 
-    /// A fault that is planted is there, and random inputs alone are enough to find it.
+    /// A fault that is planted is there, and random inputs alone are enough to find it. No kind is without one.
     #[test]
     fn every_fault_at_the_boundary_shows() {
         for entry in &KINDS {
+            assert!(!entry.faults.is_empty(), "{} has no fault", entry.name);
             for fault in entry.faults {
                 assert!((entry.shows)(fault, INPUTS), "{fault} shows nowhere");
             }

@@ -17,11 +17,11 @@ const GENERATORS: u64 = 10_000;
 const UNADVANCED: &str = "word-unadvanced";
 
 /// The word of the step after the one that is due.
-const OF_NEXT_STEP: &str = "word-of-next-step";
+pub const OF_NEXT_STEP: &str = "word-of-next-step";
 
 /// Words, each from a generator of its own.
 pub struct NextU32 {
-    end: viewing::NextU32,
+    pub end: viewing::NextU32,
 }
 
 /// How the port ends a word.

@@ -2,12 +2,14 @@
 
 use std::process::{Command, Output};
 
-/// Faults that are found within a second, in seedings, words, samples and tables.
-const FAULTS: [&str; 4] = [
+/// Faults that are found within a second, in seedings, words, samples, changes and lookups.
+const FAULTS: [&str; 6] = [
     "zero-bytes",
     "word-unadvanced",
     "floyd-appends-j",
     "old-weight",
+    "weight-sum",
+    "weight-beyond",
 ];
 
 fn compare(words: &[&str]) -> Output {

@@ -4,7 +4,8 @@
 //! boundary and nothing else: each function lends its arguments to one function of `include/gapyndura.h`. It uses no
 //! allocator and no `std`: every slice is lent by the caller.
 //!
-//! The steps of a view, [`slice::IndexedSamples`], have no function there: they alone are written here.
+//! A view, [`slice::IndexedSamples`], and the two parts of a shuffled slice have no function there: the clip of a view's amount, its steps and
+//! the split of the slice are written here, and are not proved.
 //!
 //! ```
 //! use gapyndura::Xoshiro256PlusPlus;
@@ -75,3 +76,7 @@ mod xoshiro256plusplus;
 
 pub use refusal::Refusal;
 pub use xoshiro256plusplus::Xoshiro256PlusPlus;
+
+/// The version of the calls, which is `GAPYNDURA_VERSION` of the header: 1 for the first, and one more with each change or addition.
+/// `CHANGELOG.md` in the repository says what a caller has to change.
+pub const VERSION: u32 = 1;

@@ -138,8 +138,8 @@ const MOST_ITEMS: u64 = (1 << 32) - 2;
 /// and stays too, where rand panics. [`sample`] draws no such index; in a view that has one, `len` still counts all the indices
 /// from the place on, and so is more than the items to come.
 ///
-/// The draw is proved. The step is this crate's own, for it has no function at the C boundary: it is that of the Rattle function
-/// `IndexedSamples::next`.
+/// The draw is proved. The clip of the amount in [`sample`] and the step are this crate's own, for a view has no function at the C
+/// boundary: they are those of the Rattle functions `sample` and `next` of crate `indexed_samples`, which are proved.
 ///
 /// ```
 /// use gapyndura::slice::IndexedSamples;

@@ -32,7 +32,7 @@ pub type ChooseStable = Calls<StableChoice>;
 
 /// Calls of either chooser.
 pub struct Calls<C> {
-    end: choosing::Choose,
+    pub end: choosing::Choose,
     chooser: PhantomData<C>,
 }
 

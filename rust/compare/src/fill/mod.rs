@@ -16,7 +16,7 @@ use crate::slices::Lent;
 
 /// Calls of `sample_fill`, each from a generator of its own.
 pub struct SampleFill {
-    end: End,
+    pub end: End,
 }
 
 /// A way to end a call.

@@ -14,7 +14,7 @@ use crate::arguments::Arguments;
 use crate::inputs::Source;
 use crate::kind::{Bound, Tally, report};
 
-pub use faults::FAULTS;
+pub use faults::names as faults;
 pub use process::Program;
 
 /// How many times a smaller line is looked for. Each time is a run of the program, and a chain of smaller bounds can be as long

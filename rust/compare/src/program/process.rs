@@ -5,14 +5,13 @@ use std::process::{Command, Stdio};
 use std::thread;
 
 use reference::call::{Call, joined};
-use reference::draws::Draws;
 
-use super::FAULTS;
+use super::faults;
 
-/// The program, and the draws of a fault that is put into its answers.
+/// The program, and the fault that is put into its answers.
 pub struct Program {
     path: String,
-    fault: Option<Draws>,
+    fault: Option<String>,
 }
 
 /// The line of a list that makes this call.
@@ -21,17 +20,15 @@ pub fn line(call: &Call) -> String {
 }
 
 impl Program {
-    /// The program at this path, with one of [`FAULTS`] planted, or with none where the name is not among them.
+    /// The program at this path, with this fault planted, or with none where no line can have one of that name.
     ///
     /// # Errors
     ///
     /// If it cannot be run.
     pub fn new(path: &str, plant: Option<&str>) -> io::Result<Self> {
-        let mut faults = FAULTS.iter();
-        let fault = faults.find(|(name, _)| Some(*name) == plant);
         let program = Self {
             path: path.to_owned(),
-            fault: fault.map(|(_, draws)| *draws),
+            fault: plant.map(str::to_owned),
         };
         program.run(&[])?;
         Ok(program)
@@ -72,15 +69,21 @@ impl Program {
             }
             lines = vec![format!("{} lines: {}", lines.len(), lines.join("; "))];
         }
-        if let Some(draws) = &self.fault {
-            for (call, line) in calls.iter().zip(&mut lines) {
-                let faulty = call.answer_by(draws);
-                if faulty != call.answer() {
-                    *line = joined(&faulty);
-                }
+        self.plant(calls, &mut lines);
+        Some(lines)
+    }
+
+    /// Puts the fault, if there is one, into the answers in which it shows.
+    fn plant(&self, calls: &[Call], lines: &mut [String]) {
+        let Some(fault) = &self.fault else {
+            return;
+        };
+        for (call, line) in calls.iter().zip(lines) {
+            let faulty = faults::answer(call, fault);
+            if faulty != call.answer() {
+                *line = joined(&faulty);
             }
         }
-        Some(lines)
     }
 
     /// The lines that the program writes for these calls. An end that is not a success counts as one more.
@@ -110,9 +113,11 @@ impl Program {
 
 #[cfg(test)]
 mod tests {
-    use reference::call::Call;
+    use reference::call::{Call, Name, joined};
 
     use super::Program;
+    use crate::inputs::Source;
+    use crate::program::{faults, random};
 
     /// Five lines. Of each program only what it does with lines matters.
     fn answers(program: &str) -> Vec<String> {
@@ -134,5 +139,36 @@ mod tests {
     #[test]
     fn an_end_that_is_no_success_is_an_answer() {
         assert!(answers("false")[4].contains("exit"));
+    }
+    /// A line of each kind for each fault that it can have, in which the fault shows.
+    fn lines_with_faults() -> Vec<(Call, &'static str)> {
+        let mut lines = Vec::new();
+        for name in Name::ALL {
+            for fault in faults::of(name) {
+                let mut source = Source::new(1);
+                let mut calls = (0..).map(|_| random::call(name, &mut source, u64::MAX));
+                let call = calls.find(|call| faults::answer(call, fault) != call.answer());
+                lines.extend(call.map(|call| (call, fault)));
+            }
+        }
+        lines
+    }
+
+    /// Answers that are rand's stay so without a fault, and one that is planted is in its line.
+    #[test]
+    fn a_planted_fault_is_in_the_answers() {
+        let lines = lines_with_faults();
+        let calls: Vec<Call> = lines.iter().map(|(call, _)| call.clone()).collect();
+        let rand: Vec<String> = calls.iter().map(|call| joined(&call.answer())).collect();
+        let planted = |plant| {
+            let program = Program::new("true", plant).expect("the program runs");
+            let mut answers = rand.clone();
+            program.plant(&calls, &mut answers);
+            answers
+        };
+        assert_eq!(planted(None), rand);
+        for (at, (call, fault)) in lines.iter().enumerate() {
+            assert_ne!(planted(Some(fault))[at], rand[at], "{fault} in {call}");
+        }
     }
 }

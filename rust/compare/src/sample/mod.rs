@@ -16,7 +16,7 @@ use faults::FAULTS;
 
 /// Calls of `sample`, each from a generator of its own.
 pub struct Sample {
-    fault: Option<End>,
+    pub fault: Option<End>,
 }
 
 /// All that is left of a call.

@@ -23,7 +23,7 @@ pub struct PartialShuffle {
 
 /// Calls of `shuffle`, each from a generator of its own.
 pub struct Shuffle {
-    moves_nothing: bool,
+    fault: Option<Fault>,
 }
 
 /// All that is left of a call.
@@ -88,14 +88,37 @@ impl Kind for PartialShuffle {
     }
 
     fn port(&self, call: &Shuffling) -> Answer {
-        Answer::new(call.len, |items| match self.fault {
-            Some(fault) => {
-                let before = items.to_vec();
-                let outcome = port::partial_shuffle(call.from, call.amount, items);
-                fault(outcome, &before, items)
-            }
-            None => port::partial_shuffle(call.from, call.amount, items),
+        Answer::new(call.len, |items| self.end(call, items))
+    }
+}
+
+impl PartialShuffle {
+    /// How the port ends a call, with the planted fault.
+    pub fn end(&self, call: &Shuffling, items: &mut [u32]) -> Outcome {
+        end(self.fault, items, |items| {
+            port::partial_shuffle(call.from, call.amount, items)
         })
+    }
+}
+
+impl Shuffle {
+    /// How the port ends a call, with the planted fault.
+    pub fn end(&self, call: &Whole, items: &mut [u32]) -> Outcome {
+        end(self.fault, items, |items| port::shuffle(call.from, items))
+    }
+}
+
+/// How a call on the items ends where this fault is planted.
+fn end(
+    fault: Option<Fault>,
+    items: &mut [u32],
+    call: impl FnOnce(&mut [u32]) -> Outcome,
+) -> Outcome {
+    let before = fault.map(|_| items.to_vec());
+    let outcome = call(items);
+    match (fault, before) {
+        (Some(fault), Some(before)) => fault(outcome, &before, items),
+        _ => outcome,
     }
 }
 
@@ -106,8 +129,9 @@ impl Kind for Shuffle {
     type Answer = Answer;
 
     fn new(plant: Option<&str>) -> Self {
+        let moves_nothing: Fault = faults::moves_nothing;
         Self {
-            moves_nothing: plant == Some(MOVES_NOTHING),
+            fault: (plant == Some(MOVES_NOTHING)).then_some(moves_nothing),
         }
     }
 
@@ -134,13 +158,6 @@ impl Kind for Shuffle {
     }
 
     fn port(&self, call: &Whole) -> Answer {
-        Answer::new(call.len, |items| {
-            let before = self.moves_nothing.then(|| items.to_vec());
-            let outcome = port::shuffle(call.from, items);
-            match before {
-                Some(before) => faults::moves_nothing(outcome, &before, items),
-                None => outcome,
-            }
-        })
+        Answer::new(call.len, |items| self.end(call, items))
     }
 }

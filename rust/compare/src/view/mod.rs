@@ -32,7 +32,7 @@ fn items(count: u64) -> &'static [u32] {
 
 /// Views, each from a generator of its own. Of an input the length is the number of items.
 pub struct IndexedSamples {
-    end: View,
+    pub end: View,
 }
 
 /// All that is left of a call.
@@ -61,7 +61,7 @@ impl Answer {
 }
 
 impl Kind for IndexedSamples {
-    const NAME: &'static str = "IndexedSamples";
+    const NAME: &'static str = "IndexedSamples, the wrapper's";
     const FAULTS: &'static [&'static str] =
         &[faults::STAYS, faults::NOT_CLIPPED, faults::AT_PLACES];
     const PARTS: usize = 2;

@@ -5,7 +5,7 @@ use reference::draws::rejecting;
 use reference::from_state;
 use reference::plain_list::{PLACE_OUT_OF_RANGE, PLACES_NOT_INCREASING, Record};
 use reference::sampling::Ended;
-use reference::weighing::{Changed, Made};
+use reference::weighing::{Changed, Looked, Made};
 
 use super::{Calls, PORT, port};
 
@@ -30,6 +30,12 @@ pub const PICK_WORDS: &str = "pick-words";
 /// A place out of range at any item, told before one out of order.
 pub const PLACES_ORDER: &str = "places-order";
 
+/// A lookup that answers the sum of all weights up to the place.
+pub const WEIGHT_SUM: &str = "weight-sum";
+
+/// A lookup that answers a weight of 0 beyond the last place.
+pub const WEIGHT_BEYOND: &str = "weight-beyond";
+
 /// The port's calls with this fault in them, or as they are where the name is none of these.
 pub fn planted(plant: Option<&str>) -> Calls {
     let mut calls = PORT;
@@ -41,6 +47,8 @@ pub fn planted(plant: Option<&str>) -> Calls {
         Some(OLD_WEIGHT) => calls.update_weights = old_weight,
         Some(REFUSAL_WRITES) => calls.update_weights = refusal_writes,
         Some(PLACES_ORDER) => calls.update_weights = places_order,
+        Some(WEIGHT_SUM) => calls.weight = weight_sum,
+        Some(WEIGHT_BEYOND) => calls.weight = weight_beyond,
         _ => {}
     }
     calls
@@ -119,4 +127,19 @@ fn places_order(table: &mut Record, lent: &mut [u32], places: &[u64], weights: &
         Err(PLACES_NOT_INCREASING) if places.iter().any(is_out_of_range) => Err(PLACE_OUT_OF_RANGE),
         other => other,
     }
+}
+
+/// Fault [`WEIGHT_SUM`].
+fn weight_sum(table: Record, lent: &[u32], place: u64) -> Looked {
+    let weight = port::weight(table, lent, place)?;
+    Ok(weight.map(|_| match place + 1 < table.count {
+        true => lent[place as usize],
+        false => table.total_weight,
+    }))
+}
+
+/// Fault [`WEIGHT_BEYOND`].
+fn weight_beyond(table: Record, lent: &[u32], place: u64) -> Looked {
+    let weight = port::weight(table, lent, place)?;
+    Ok(weight.or(Some(0)))
 }

@@ -137,6 +137,8 @@ impl Kind for History {
         faults::REFUSAL_WRITES,
         faults::PICK_WORDS,
         faults::PLACES_ORDER,
+        faults::WEIGHT_SUM,
+        faults::WEIGHT_BEYOND,
     ];
     const PARTS: usize = 4;
     type Input = Input;

@@ -2,13 +2,15 @@
 
 use reference::weighing::Looked;
 
-use super::{Answer, Calls, PORT, RAND, Table, random, smaller, tables};
+use super::{Answer, Calls, RAND, Table, faults, random, smaller, tables};
 use crate::inputs::{Source, smaller as smaller_numbers};
 use crate::kind::Kind;
 use crate::slices::Lent;
 
 /// Calls of `WeightedIndex::weight`.
-pub struct Lookup;
+pub struct Lookup {
+    port: Calls,
+}
 
 /// The table, and the place that is asked for.
 #[derive(Clone, Debug)]
@@ -22,12 +24,14 @@ const COUNTS: [usize; 3] = [100, 1000, 2000];
 
 impl Kind for Lookup {
     const NAME: &'static str = "WeightedIndex::weight";
-    const FAULTS: &'static [&'static str] = &[];
+    const FAULTS: &'static [&'static str] = &[faults::WEIGHT_SUM, faults::WEIGHT_BEYOND];
     type Input = Input;
     type Answer = Answer<Looked>;
 
-    fn new(_: Option<&str>) -> Self {
-        Self
+    fn new(plant: Option<&str>) -> Self {
+        Self {
+            port: faults::planted(plant),
+        }
     }
 
     fn fixed(mut visit: impl FnMut(Input)) {
@@ -63,7 +67,7 @@ impl Kind for Lookup {
     }
 
     fn port(&self, input: &Input) -> Answer<Looked> {
-        answer(&PORT, input)
+        answer(&self.port, input)
     }
 }
 

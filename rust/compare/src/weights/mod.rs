@@ -5,7 +5,7 @@
 mod change;
 #[cfg(test)]
 mod differences;
-mod faults;
+pub mod faults;
 mod history;
 #[cfg(test)]
 mod longest;
