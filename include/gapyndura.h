@@ -14,8 +14,8 @@
 #include <stddef.h>
 #include <stdint.h>
 
-/* The version of the calls declared here: 1 for the first, and one more with each request that changes a call or adds one. A caller can
- * test it by #if; CHANGELOG.md says what has to be changed in the caller. */
+/* The version: 1 for the base, and one more with each request (docs/requests/). A caller can test it by #if; CHANGELOG.md says what has
+ * to be changed in the caller, if anything has. */
 #define GAPYNDURA_VERSION 1
 
 #ifdef __cplusplus

@@ -77,6 +77,6 @@ mod xoshiro256plusplus;
 pub use refusal::Refusal;
 pub use xoshiro256plusplus::Xoshiro256PlusPlus;
 
-/// The version of the calls, which is `GAPYNDURA_VERSION` of the header: 1 for the first, and one more with each change or addition.
+/// The version, which is `GAPYNDURA_VERSION` of the header: 1 for the base, and one more with each request.
 /// `CHANGELOG.md` in the repository says what a caller has to change.
 pub const VERSION: u32 = 1;
