@@ -139,7 +139,7 @@ const MOST_ITEMS: u64 = (1 << 32) - 2;
 /// from the place on, and so is more than the items to come.
 ///
 /// The draw is proved. The clip of the amount in [`sample`] and the step are this crate's own, for a view has no function at the C
-/// boundary: they are those of the Rattle functions `sample` and `next` of crate `indexed_samples`, which are proved.
+/// boundary: they do what the proved view does in Rattle.
 ///
 /// ```
 /// use gapyndura::slice::IndexedSamples;
