@@ -26,7 +26,7 @@ use denote.Memory.{mem}
 use denote.Ref.{RefT}
 use denote.Slice.{sliceVal, MutSlice, ShrSlice, heres, Room, at-slice}
 use denote.Index.{row, whole-out, closes-slice}
-use Rattle.indexed_samples.proofs.LendAgain.{LentAgain}
+use Rattle.view_sample.proofs.LendAgain.{LentAgain}
 
 module _ {M : Type 1} (𝓤 : URA M) (H : Heap 𝓤) (A : Atoms 𝓤) (W : Given 𝓤 H A) (R : RattleType) (κ κ′ : Lft) where
   pub shr-shorter : κ′ ⊑ κ → (ℓ ℓ′ : Lifetime) (x : RefT (List (R .Denot))) (vs : List Val) → ent 𝓤 (sem 𝓤 H A (ShrSlice ℓ κ R .own x vs)) (sem 𝓤 H A (ShrSlice ℓ′ κ′ R .own x vs))

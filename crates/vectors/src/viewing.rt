@@ -1,4 +1,4 @@
-// Views of drawn items: `sample` of crate indexed_samples, and the view's own `next` and `len`, run to the view's end and past it. A line is
+// Views of drawn items: `sample` of crate view_sample, and the view's own `next` and `len`, run to the view's end and past it. A line is
 //     indexed_samples S0 S1 S2 S3 N AMOUNT BUDGET INDICES SCRATCH
 // with the generator's state, how many items there are, the amount, the budget, and how many entries the slice of indices and the scratch slice
 // have. The items are 7, 10, 13, ..: item i is 3 i + 7. Each slice has 50,176 entries where more are asked for, and the entries of the last two are

@@ -3,7 +3,7 @@
 use index::IndexSample;
 use indexed_samples::IndexedSamples;
 use indexed_samples::Item;
-use indexed_samples::sample;
+use view_sample::sample;
 use xoshiro256plusplus::Xoshiro256PlusPlus;
 
 // A view's `len` at a place, what its `next` shows there, and the place to which that moves.

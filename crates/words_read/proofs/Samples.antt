@@ -23,7 +23,7 @@ use Rattle.index_methods.specs.InPlace.{falling}
 use Rattle.index_methods.specs.Rejection.{Found, foundOf}
 use Rattle.index_methods.proofs.FoundWords.{Read, found-read}
 use Rattle.index.specs.Sample.{Sampling, refuses, written, byFloyd, byInPlace, byRejection, byMethod, sampleOf}
-use Rattle.indexed_samples.specs.View.{viewSampleOf}
+use Rattle.view_sample.specs.Viewed.{viewSampleOf}
 use Rattle.words_read.specs.WordsRead.{Reads, ReadsWithin}
 
 -- a test of what a call leaves passes where it passes for each refusal before 13 and for each method that may be due

@@ -16,7 +16,7 @@ use Rattle.iterator.specs.Fill.{Filling, sampleFillOf}
 use Rattle.weighted_index.specs.declared.answer.WeightedIndex.{WeightedIndex}
 use Rattle.pick.specs.Pick.{pickOf}
 use Rattle.choose.specs.Choose.{chooseOf, chooseStableOf}
-use Rattle.indexed_samples.specs.View.{viewSampleOf}
+use Rattle.view_sample.specs.Viewed.{viewSampleOf}
 use Rattle.rng_by_ref.specs.Lending.{Lending, nextOf}
 
 -- A call without a budget: the generator handed back is the one after as many steps as the words figure says, and 13 is no answer.

@@ -48,25 +48,25 @@ use Rattle.xoshiro256plusplus.proofs.Xoshiro256PlusPlus.Laws as G′
 use Rattle.index.specs.Sample.{Sampling}
 use Rattle.index.proofs.IndexSample as E
 use Rattle.index.proofs.IndexSample.Laws as E′
-use Rattle.indexed_samples.specs.View.{viewSampleOf, Viewed}
-use Rattle.indexed_samples.specs.declared.ViewSample.{ViewSample}
+use Rattle.view_sample.specs.Viewed.{viewSampleOf, Viewed}
+use Rattle.view_sample.specs.declared.ViewSample.{ViewSample}
 use Rattle.vectors.specs.declared.views.Collected.{Collected}
 use Rattle.vectors.specs.declared.views.ItemsSample.{ItemsSample}
-use Rattle.indexed_samples.proofs.LendAgain.{LentAgain, lends-again}
+use Rattle.view_sample.proofs.LendAgain.{LentAgain, lends-again}
 use Rattle.vectors.proofs.MeetOfLifetimes.{Whole, shorter, longer, over}
 use Rattle.vectors.proofs.SliceBack.{shr-shorter, comes-back-some}
 use Rattle.indexed_samples.proofs.IndexedSamples as T
 use Rattle.indexed_samples.proofs.IndexedSamples.Laws as T′
-use Rattle.indexed_samples.proofs.ViewSample as D
-use Rattle.indexed_samples.proofs.ViewSample.Laws as D′
+use Rattle.view_sample.proofs.ViewSample as D
+use Rattle.view_sample.proofs.ViewSample.Laws as D′
 use Rattle.vectors.proofs.views.Collected as K
 use Rattle.vectors.proofs.views.Collected.Laws as K′
 use Rattle.vectors.proofs.views.ItemsSample as Q
 use Rattle.vectors.proofs.views.ItemsSample.Laws as Q′
-use Rattle.indexed_samples.proofs.sample as sample
-use Rattle.indexed_samples.proofs.sample.Symbol as sample-def
-use Rattle.indexed_samples.proofs.sample.Symbol.{name as #sample}
-use Rattle.indexed_samples.proofs.sample.Met as sample-thm
+use Rattle.view_sample.proofs.sample as sample
+use Rattle.view_sample.proofs.sample.Symbol as sample-def
+use Rattle.view_sample.proofs.sample.Symbol.{name as #sample}
+use Rattle.view_sample.proofs.sample.Met as sample-thm
 use Rattle.vectors.proofs.views.collect as collect
 use Rattle.vectors.proofs.views.collect.Symbol as collect-def
 use Rattle.vectors.proofs.views.collect.Symbol.{name as #collect}
@@ -259,5 +259,5 @@ sample-items-spec 𝓤 H 𝓜 𝓖 𝓡 =
     entered 𝓤 H (tripleOf 𝓤 H (𝓖 .A) run-sample.signature (run-sample.spec 𝓤 H (𝓖 .A) (𝓜 .mem) (𝓡 .run)))
     (tables 𝓤 H 𝓜 𝓡 code.env .C) (tables 𝓤 H 𝓜 𝓡 code.env .Λ) #sample-items code.function (code.unfolded 𝓤 H 𝓜 𝓡)
     (items-meets 𝓤 H (𝓖 .A) (givenOf 𝓤 H 𝓜 𝓖) (𝓜 .mem) (𝓡 .run) (tablesOf 𝓤 H 𝓜 (tables 𝓤 H 𝓜 𝓡 code.env))
-    (cited 𝓤 H (Drawing 𝓤 H (𝓖 .A) (𝓜 .mem) (𝓡 .run)) 𝓜 𝓡 code.env #sample sample-def.routine code.calls-indexed-samples·sample (sample-thm.met 𝓤 H 𝓜 𝓖 𝓡))
+    (cited 𝓤 H (Drawing 𝓤 H (𝓖 .A) (𝓜 .mem) (𝓡 .run)) 𝓜 𝓡 code.env #sample sample-def.routine code.calls-view-sample·sample (sample-thm.met 𝓤 H 𝓜 𝓖 𝓡))
     (cited 𝓤 H (Running 𝓤 H (𝓖 .A) (𝓜 .mem) (𝓡 .run)) 𝓜 𝓡 code.env #collect collect-def.routine code.calls-vectors·views·collect (collect-thm.met 𝓤 H 𝓜 𝓖 𝓡)))

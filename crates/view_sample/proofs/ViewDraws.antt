@@ -38,8 +38,9 @@ use Rattle.index_shares.specs.Shares.{SampleOf}
 use Rattle.index.proofs.Cases.{Fit, slice-short, floyd, scratch-short, in-place, rejection, positive}
 use Rattle.index_methods.proofs.InPlaceTurns.{falling-positive}
 use Rattle.index_shares.proofs.Shares.{index-shares}
-use Rattle.indexed_samples.specs.View.{drawnOf, viewSampleOf, ViewDraws}
-use Rattle.indexed_samples.proofs.View.{some, zero-state, too-long, sampled, all-drawn}
+use Rattle.indexed_samples.proofs.View.{some}
+use Rattle.view_sample.specs.Viewed.{drawnOf, viewSampleOf, ViewDraws}
+use Rattle.view_sample.proofs.Cases.{zero-state, too-long, sampled, all-drawn}
 
 -- ---- the ends of a draw
 

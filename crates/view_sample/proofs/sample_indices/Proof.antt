@@ -3,10 +3,10 @@ use mathlib.Core.Path.{sym, _∙_}
 use native.Mathlib.Omega.{arith}
 use lib.ListN.{length}
 use denote.Ref.{now}
-use Rattle.indexed_samples.proofs.View.{zero-state, too-long, as-sampled}
+use Rattle.view_sample.proofs.Cases.{zero-state, too-long, as-sampled}
 use borrow.Author.Needs.{needs}
-use Rattle.indexed_samples.proofs.sample_indices.Statement.{statement}
-use Rattle.indexed_samples.proofs.sample_indices.Tie as tie
+use Rattle.view_sample.proofs.sample_indices.Statement.{statement}
+use Rattle.view_sample.proofs.sample_indices.Tie as tie
 
 is-zero-requires : tie.Need-is-zero-requires
 is-zero-requires c κs = search needs

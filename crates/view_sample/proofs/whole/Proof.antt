@@ -1,8 +1,8 @@
 -- `whole` meets its contract: the slice is read where it stands. Assumes nothing.
 use mathlib.Core.Path.{refl}
 use Rattle.parts.proofs.Parts.{at-start}
-use Rattle.indexed_samples.proofs.whole.Statement.{statement}
-use Rattle.indexed_samples.proofs.whole.Tie as tie
+use Rattle.view_sample.proofs.whole.Statement.{statement}
+use Rattle.view_sample.proofs.whole.Tie as tie
 
 returns : tie.Need-returns
 returns c = record { place = at-start (c .before .args .indices); holds = refl }
