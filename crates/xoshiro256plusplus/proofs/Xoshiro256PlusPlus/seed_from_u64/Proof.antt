@@ -40,7 +40,8 @@ returns c =
       states .next-seed4 .ensures,
       states .before .next-seed3 .ensures,
       states .before .before .next-seed2 .ensures,
-      states .before .before .before .next-seed .ensures)
+      states .before .before .before .next-seed .ensures,
+    )
 
 pub seed-from-u64-spec : {M : Type 1} → statement M
 seed-from-u64-spec =
