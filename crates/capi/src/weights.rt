@@ -29,7 +29,8 @@ pub extern "C" fn gapyndura_weights_new(
 {
     let m = new(weights, cumulative_weights);
     let answer = m.answer;
-    store_made(answer, table)
+    let made = store_made(answer, table);
+    made
 }
 
 // `update_weights` for C: the definition `updateOf` of the record `recordOf`, written out as `made` says.

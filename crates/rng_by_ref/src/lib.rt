@@ -48,8 +48,10 @@ pub fn step(rng: Xoshiro256PlusPlus) -> Stepped
 pub fn next_u32(rng: &mut Xoshiro256PlusPlus) -> LentWord
     ensures { λ r. ⌜ ended (r .answer) (r .words) (now (rng .exit)) ≡ nextOf (now (rng .entry)) ⌝ }
 {
-    let stepped = step(*rng);
-    *rng = stepped.rng;
+    let before = *rng;
+    let stepped = step(before);
+    let after = stepped.rng;
+    *rng = after;
     LentWord {
         answer: stepped.answer,
         words: stepped.words,

@@ -1,6 +1,7 @@
 -- `from_seed` meets its contract: the words it tests are all 0 exactly if the bytes are (`from-zero`, `from-words`). Assumes nothing.
-use mathlib.Core.Path.{_∙_}
+use mathlib.Core.Path.{sym, ap, _∙_}
 use borrow.Author.Needs.{needs}
+use Rattle.xoshiro256plusplus.specs.Generator.{zeroState}
 use Rattle.xoshiro256plusplus.proofs.Seed.{from-zero, from-words}
 use Rattle.xoshiro256plusplus.proofs.Xoshiro256PlusPlus.from_seed.Statement.{statement}
 use Rattle.xoshiro256plusplus.proofs.Xoshiro256PlusPlus.from_seed.Tie as tie
@@ -17,12 +18,15 @@ seed-from-u64-requires c κs = search needs
 returns : tie.Need-returns
 returns c =
     let c₀ = c .before .before .before .before .before in
-    c .seed-from-u64 .ensures ∙ from-zero (c₀ .args .t1) (c₀ .good .0 .1 .0 .1) (cc)
+    let told = c .before .before .is-zero .ensures ∙ ap zeroState (c .before .before .before .read-words .ensures) in
+    c .seed-from-u64 .ensures ∙ from-zero (c₀ .args .t1) (c₀ .good .0 .1 .0 .1) (sym told ∙ c .before .if1 .taken)
 
 returns-2 : tie.Need-returns-2
 returns-2 c =
     let c₀ = c .before .before .before .before in
-    c .before .before .read-words .ensures ∙ from-words (c₀ .args .t1) (c₀ .good .0 .1 .0 .1) (cc)
+    let words = c .before .before .read-words .ensures in
+    let told = c .before .is-zero .ensures ∙ ap zeroState words in
+    words ∙ from-words (c₀ .args .t1) (c₀ .good .0 .1 .0 .1) (sym told ∙ c .if1 .left)
 
 pub from-seed-spec : {M : Type 1} → statement M
 from-seed-spec =

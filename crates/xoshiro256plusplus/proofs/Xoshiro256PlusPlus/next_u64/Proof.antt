@@ -18,7 +18,7 @@ rotate-left-requires-2 c κs = search needs
 
 returns : tie.Need-returns
 unfolding output advance add64 shl64
-returns c = record { value = cc; rng = rw (c .rotate-left2 .ensures) }
+returns c = record { value = rw (c .before .before .before .before .before .before .wrapping-add-u642 .ensures, c .before .before .before .before .before .before .before .rotate-left .ensures, c .before .before .before .before .before .before .before .before .wrapping-add-u64 .ensures); rng = rw (c .rotate-left2 .ensures) }
 
 pub next-u64-spec : {M : Type 1} → statement M
 next-u64-spec =

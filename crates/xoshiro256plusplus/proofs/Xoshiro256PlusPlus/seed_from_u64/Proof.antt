@@ -29,7 +29,19 @@ mix64-requires-4 c κs = search needs
 
 returns : tie.Need-returns
 unfolding seeded
-returns c = cc
+returns c =
+    let mixed = c .before .before .before in
+    let states = mixed .before in
+    rw (
+      c .mix644 .ensures,
+      c .before .mix643 .ensures,
+      c .before .before .mix642 .ensures,
+      mixed .mix64 .ensures,
+      states .next-seed4 .ensures,
+      states .before .next-seed3 .ensures,
+      states .before .before .next-seed2 .ensures,
+      states .before .before .before .next-seed .ensures,
+    )
 
 pub seed-from-u64-spec : {M : Type 1} → statement M
 seed-from-u64-spec =

@@ -17,7 +17,7 @@ read-u64-requires-4 c κs = search needs
 
 returns : tie.Need-returns
 unfolding fourWords
-returns c = cc
+returns c = rw (c .read-u644 .ensures, c .before .read-u643 .ensures, c .before .before .read-u642 .ensures, c .before .before .before .read-u64 .ensures)
 
 pub read-words-spec : {M : Type 1} → statement M
 read-words-spec =

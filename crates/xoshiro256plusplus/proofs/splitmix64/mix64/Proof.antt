@@ -11,7 +11,7 @@ wrapping-mul-requires-2 c κs = search needs
 
 returns : tie.Need-returns
 unfolding mix64 xorShift
-returns c = cc
+returns c = rw (c .wrapping-mul2 .ensures, c .before .wrapping-mul .ensures)
 
 pub mix64-spec : {M : Type 1} → statement M
 mix64-spec = tie.close (tie.spec wrapping-mul-requires wrapping-mul-requires-2 returns)
