@@ -8,6 +8,29 @@ use borrow.Author.Needs.{needs}
 use Rattle.index.proofs.sample.Statement.{statement}
 use Rattle.index.proofs.sample.Tie as tie
 
+-- ---- the contexts behind a need: the start, the test for an all-zero generator, and the choice of the method
+
+abbrev begun : tie.After-is-zero → tie.Start
+begun c = c .before .before .before
+
+abbrev tested : tie.After-choose-method → tie.After-is-zero
+tested c = c .before .before .before .before .before
+
+-- where one of the three methods is due, and its answer is packed
+abbrev floyd-due : tie.After-drawn → tie.After-enum-told
+floyd-due c = c .before .before .before .before .before
+
+abbrev swapped : tie.After-drawn2 → tie.After-sample-inplace
+swapped c = c .before .before .before .before .before
+
+abbrev in-place-due : tie.After-drawn2 → tie.After-enum-told2
+in-place-due c = swapped c .before .before .before .before
+
+abbrev rejection-due : tie.After-found → tie.After-enum-told3
+rejection-due c = c .before .before .before .before .before
+
+-- ---- the needs
+
 is-zero-requires : tie.Need-is-zero-requires
 is-zero-requires c κs = search needs
 
@@ -16,8 +39,9 @@ refused-requires c κs = search needs
 
 returns : tie.Need-returns
 returns c =
-    let a = c .before .before .before .before .before .args in
-    let alive = sym (c .before .before .is-zero .ensures) ∙ c .before .if1 .taken in
+    let z = c .before .before in
+    let a = begun z .args in
+    let alive = sym (z .is-zero .ensures) ∙ c .before .if1 .taken in
     c .refused .ensures _ _ ∙ sym (zero-state (a .length) (a .amount) (a .budget) (a .rng) (now (a .indices)) (now (a .scratch)) alive)
 
 refused-requires-2 : tie.Need-refused-requires-2
@@ -25,8 +49,9 @@ refused-requires-2 c κs = search needs
 
 returns-2 : tie.Need-returns-2
 returns-2 c =
-    let a = c .before .before .before .before .before .before .args in
-    let alive = sym (c .before .before .before .is-zero .ensures) ∙ c .before .before .if1 .left in
+    let z = c .before .before .before in
+    let a = begun z .args in
+    let alive = sym (z .is-zero .ensures) ∙ c .before .before .if1 .left in
     c .refused2 .ensures _ _ ∙ sym (too-long (a .length) (a .amount) (a .budget) (a .rng) (now (a .indices)) (now (a .scratch)) alive (omega arith))
 
 refused-requires-3 : tie.Need-refused-requires-3
@@ -34,8 +59,9 @@ refused-requires-3 c κs = search needs
 
 returns-3 : tie.Need-returns-3
 returns-3 c =
-    let a = c .before .before .before .before .before .before .before .args in
-    let alive = sym (c .before .before .before .before .is-zero .ensures) ∙ c .before .before .before .if1 .left in
+    let z = c .before .before .before .before in
+    let a = begun z .args in
+    let alive = sym (z .is-zero .ensures) ∙ c .before .before .before .if1 .left in
     c .refused3 .ensures _ _ ∙ sym (amount-exceeds (a .length) (a .amount) (a .budget) (a .rng) (now (a .indices)) (now (a .scratch)) alive (omega arith) (omega arith))
 
 refused-requires-4 : tie.Need-refused-requires-4
@@ -43,8 +69,9 @@ refused-requires-4 c κs = search needs
 
 returns-4 : tie.Need-returns-4
 returns-4 c =
-    let a = c .before .before .before .before .before .before .before .before .args in
-    let alive = sym (c .before .before .before .before .before .is-zero .ensures) ∙ c .before .before .before .before .if1 .left in
+    let z = c .before .before .before .before .before in
+    let a = begun z .args in
+    let alive = sym (z .is-zero .ensures) ∙ c .before .before .before .before .if1 .left in
     c .refused4 .ensures _ _ ∙ sym (slice-short (a .length) (a .amount) (a .budget) (a .rng) (now (a .indices)) (now (a .scratch)) alive (omega arith) (omega arith) (omega arith))
 
 cast-n : tie.Need-cast-n
@@ -57,8 +84,8 @@ choose-method-requires : tie.Need-choose-method-requires
 choose-method-requires c κs = search needs
 
 -- after the four checks no refusal applies but the method's own
-fit : (m : tie.After-choose-method) → let a = m .before .before .before .before .before .before .before .before .args in Fit (a .length) (a .amount) (a .rng) (now (a .indices))
-fit m = record { alive = sym (m .before .before .before .before .before .is-zero .ensures) ∙ m .before .before .before .before .if1 .left; short = omega arith; enough = omega arith; room = omega arith }
+fit : (m : tie.After-choose-method) → let a = begun (tested m) .args in Fit (a .length) (a .amount) (a .rng) (now (a .indices))
+fit m = record { alive = sym (tested m .is-zero .ensures) ∙ m .before .before .before .before .if1 .left; short = omega arith; enough = omega arith; room = omega arith }
 
 enum-told : tie.Need-enum-told
 enum-told c = search needs
@@ -78,7 +105,7 @@ refused-requires-5 c κs = search needs
 returns-5 : tie.Need-returns-5
 returns-5 c =
     let m = c .before .before .before .before in
-    let a = m .before .before .before .before .before .before .before .before .args in
+    let a = begun (tested m) .args in
     let due = sym (m .choose-method .ensures) ∙ c .before .before .enum-told2 .given .1 in
     c .refused5 .ensures _ _ ∙ sym (scratch-short (a .length) (a .amount) (a .budget) (a .rng) (now (a .indices)) (now (a .scratch)) (fit m) due (omega arith))
 
@@ -93,7 +120,7 @@ enum-told-3 c = search needs
 
 sample-rejection-requires : tie.Need-sample-rejection-requires
 sample-rejection-requires c κs =
-    let a = c .before .before .before .before .before .before .before .before .before .before .before .args in
+    let a = begun (tested (c .before .before .before)) .args in
     let due = sym (c .before .before .before .choose-method .ensures) ∙ c .before .enum-told3 .given .1 in
     (positive (a .length) (a .amount) due (omega arith), omega arith)
 
@@ -105,9 +132,9 @@ same-length c = search needs
 
 returns-6 : tie.Need-returns-6
 returns-6 c =
-    let m = c .before .before .before .before .before .before .before in
-    let a = m .before .before .before .before .before .before .before .before .args in
-    let due = sym (m .choose-method .ensures) ∙ c .before .before .before .before .before .enum-told .given .1 in
+    let m = floyd-due c .before .before in
+    let a = begun (tested m) .args in
+    let due = sym (m .choose-method .ensures) ∙ floyd-due c .enum-told .given .1 in
     let d = c .drawn .ensures in
     floyd-done (a .length) (a .amount) (a .rng) _ (c .drawn .result) (d .0) (d .1) (d .2) (now (a .indices)) _ (now (a .scratch)) (c .before .before .before .sample-floyd .ensures)
     ∙ sym (floyd (a .length) (a .amount) (a .budget) (a .rng) (now (a .indices)) (now (a .scratch)) (fit m) due)
@@ -120,11 +147,11 @@ same-length-3 c = search needs
 
 returns-7 : tie.Need-returns-7
 returns-7 c =
-    let m = c .before .before .before .before .before .before .before .before .before .before .before in
-    let a = m .before .before .before .before .before .before .before .before .args in
-    let due = sym (m .choose-method .ensures) ∙ c .before .before .before .before .before .before .before .before .before .enum-told2 .given .1 in
+    let m = in-place-due c .before .before in
+    let a = begun (tested m) .args in
+    let due = sym (m .choose-method .ensures) ∙ in-place-due c .enum-told2 .given .1 in
     let d = c .drawn2 .ensures in
-    in-place-done (a .length) (a .amount) (a .rng) _ (c .drawn2 .result) (d .0) (d .1) (d .2) (now (a .indices)) _ (now (a .scratch)) _ (c .before .before .before .before .before .sample-inplace .ensures)
+    in-place-done (a .length) (a .amount) (a .rng) _ (c .drawn2 .result) (d .0) (d .1) (d .2) (now (a .indices)) _ (now (a .scratch)) _ (swapped c .sample-inplace .ensures)
     ∙ sym (in-place (a .length) (a .amount) (a .budget) (a .rng) (now (a .indices)) (now (a .scratch)) (fit m) due (omega arith))
 
 same-length-4 : tie.Need-same-length-4
@@ -132,9 +159,9 @@ same-length-4 c = search needs
 
 returns-8 : tie.Need-returns-8
 returns-8 c =
-    let m = c .before .before .before .before .before .before .before in
-    let a = m .before .before .before .before .before .before .before .before .args in
-    let due = sym (m .choose-method .ensures) ∙ c .before .before .before .before .before .enum-told3 .given .1 in
+    let m = rejection-due c .before .before in
+    let a = begun (tested m) .args in
+    let due = sym (m .choose-method .ensures) ∙ rejection-due c .enum-told3 .given .1 in
     let r = c .before .before .before .sample-rejection in
     let d = c .found .ensures in
     rejection-done (foundOf (a .length) (a .amount) (a .budget) (a .rng)) (r .result) (c .found .result) (now (a .indices)) _ (now (a .scratch)) (r .ensures) (d .0) (d .1) (d .2)
