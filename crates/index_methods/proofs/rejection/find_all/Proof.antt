@@ -10,8 +10,9 @@ use lib.ListN.{take, drop, set, length-set}
 use lib.Seq.{take-suc-set}
 use borrow.Author.Tests.{not-true, not-false}
 use Rattle.counting.specs.Lists.{member}
+use Rattle.uniform_int.specs.Rejecting.{shown}
 use Rattle.index_methods.specs.Seen.{Asked}
-use Rattle.index_methods.proofs.RejectionTurns.{Turn, begin, finish, words-fall, spent-turn, dropped-turn, kept-turn}
+use Rattle.index_methods.proofs.RejectionTurns.{draw, Turn, begin, finish, words-fall, spent-turn, dropped-turn, kept-turn}
 use Rattle.index_methods.proofs.SeenBits.{asked-grown, asked-same}
 use borrow.Author.Needs.{needs}
 use Rattle.index_methods.proofs.rejection.find_all.Statement.{statement}
@@ -24,6 +25,26 @@ Inv-loop length amount budget indices₀ seen₀ uniform state₀ words₀ count
 
 abbrev μ-loop : tie.MeasureT-loop
 μ-loop length amount budget indices₀ seen₀ uniform state₀ words₀ count₀ indices seen state words count = budget - words
+
+-- ---- the contexts behind a need: the start, a turn's begin, its draw, and its look for what is held
+
+abbrev begun : tie.At-loop Inv-loop μ-loop → tie.Start Inv-loop μ-loop
+begun c = c .before .before .before .before
+
+abbrev turning : tie.After-sample Inv-loop μ-loop → tie.At-loop Inv-loop μ-loop
+turning c = c .before .before
+
+abbrev drawing : tie.After-draw Inv-loop μ-loop → tie.After-sample Inv-loop μ-loop
+drawing c = c .before .before .before
+
+abbrev looking : tie.After-is-new Inv-loop μ-loop → tie.After-draw Inv-loop μ-loop
+looking c = c .before .before .before .before
+
+-- a turn's draw is the definition's, at the threshold that `new` gave
+made : (c : tie.After-sample Inv-loop μ-loop) → let l = turning c .loop in let a = begun (turning c) .args in shown (c .sample .result) ≡ draw (a .length) (a .budget - l .words) (l .state) (l .words)
+made c = rw (c .before .before .loop .inv .0) at (c .sample .ensures)
+
+-- ---- the needs
 
 new-requires : tie.Need-new-requires Inv-loop μ-loop
 new-requires c κs = search needs
@@ -43,18 +64,19 @@ enum-told : tie.Need-enum-told Inv-loop μ-loop
 enum-told c = search needs
 
 same-length : tie.Need-same-length Inv-loop μ-loop
-same-length c = c .before .before .before .before .before .loop .inv .1 .long
+same-length c = turning (c .before .before .before) .loop .inv .1 .long
 
 same-length-2 : tie.Need-same-length-2 Inv-loop μ-loop
-same-length-2 c = c .before .before .before .before .before .loop .inv .3
+same-length-2 c = turning (c .before .before .before) .loop .inv .3
 
 returns : tie.Need-returns Inv-loop μ-loop
 returns c =
-    let a = c .before .before .before .before .before .before .before .before .before .args in
-    let l = c .before .before .before .before .before .loop in
-    let room = c .before .before .before .before .before .before .before .before .before .pre .1 in
+    let before = turning (c .before .before .before) in
+    let a = begun before .args in
+    let l = before .loop in
+    let room = begun before .pre .1 in
     let s = c .before .before .before .sample in
-    let e = rw (l .inv .0) at (s .ensures) in
+    let e = made (c .before .before .before) in
     spent-turn (a .length) (a .amount) (a .budget) (a .rng) (now (a .indices)) room (l .state) (l .indices) (l .words) (l .count) (l .inv .1) (omega arith) (s .result) e (c .enum-told .given .1)
 
 cast-at : tie.Need-cast-at Inv-loop μ-loop
@@ -62,36 +84,40 @@ cast-at c = search needs
 
 is-new-requires : tie.Need-is-new-requires Inv-loop μ-loop
 is-new-requires c κs =
-    let l = c .before .before .before .before .before .before .before .before .loop in
+    let l = turning (drawing (c .before .before .before)) .loop in
     (omega (arith, l .inv .1 .long), l .inv .2)
 
 mul-indices : tie.Need-mul-indices Inv-loop μ-loop
-mul-indices c = omega (arith, c .before .before .before .before .before .before .before .before .before .before .before .before .loop .inv .1 .long)
+mul-indices c = omega (arith, turning (drawing (looking (c .before .before .before))) .loop .inv .1 .long)
 
 slice-write-indices : tie.Need-slice-write-indices Inv-loop μ-loop
-slice-write-indices c = omega (arith, c .before .before .before .before .before .before .before .before .before .before .before .before .loop .inv .1 .long)
+slice-write-indices c = omega (arith, turning (drawing (looking (c .before .before .before))) .loop .inv .1 .long)
 
 add-count : tie.Need-add-count Inv-loop μ-loop
 add-count c = search needs
 
 loop-less : tie.Need-loop-less Inv-loop μ-loop
 loop-less c =
-    let a = c .before .before .before .before .before .before .before .before .before .before .before .before .before .before .before .before .args in
-    let l = c .before .before .before .before .before .before .before .before .before .before .before .before .loop in
-    let room = c .before .before .before .before .before .before .before .before .before .before .before .before .before .before .before .before .pre .1 in
-    let s = c .before .before .before .before .before .before .before .before .before .before .sample in
-    let e = rw (l .inv .0) at (s .ensures) in
-    let d = c .before .before .before .before .before .before .before .draw .given in
+    let at = looking (c .before .before .before) in
+    let before = turning (drawing at) in
+    let a = begun before .args in
+    let l = before .loop in
+    let room = begun before .pre .1 in
+    let s = drawing at .sample in
+    let e = made (drawing at) in
+    let d = at .draw .given in
     omega (arith, words-fall (a .length) (a .amount) (a .budget) (a .rng) (now (a .indices)) room (l .state) (l .indices) (l .words) (l .count) (l .inv .1) (omega arith) (s .result) e (d .0 .0) (d .1))
 
 loop-again : tie.Need-loop-again Inv-loop μ-loop
 loop-again c =
-    let a = c .before .before .before .before .before .before .before .before .before .before .before .before .before .before .before .before .args in
-    let l = c .before .before .before .before .before .before .before .before .before .before .before .before .loop in
-    let room = c .before .before .before .before .before .before .before .before .before .before .before .before .before .before .before .before .pre .1 in
-    let s = c .before .before .before .before .before .before .before .before .before .before .sample in
-    let e = rw (l .inv .0) at (s .ensures) in
-    let d = c .before .before .before .before .before .before .before .draw .given in
+    let at = looking (c .before .before .before) in
+    let before = turning (drawing at) in
+    let a = begun before .args in
+    let l = before .loop in
+    let room = begun before .pre .1 in
+    let s = drawing at .sample in
+    let e = made (drawing at) in
+    let d = at .draw .given in
     let new = c .before .before .before .is-new .ensures in
     let long = l .inv .1 .long in
     let fresh : member (d .0 .0) (take (l .count) (l .indices)) ≡ false = not-true _ (sym (new .0) ∙ c .if1 .taken) in
@@ -101,22 +127,26 @@ loop-again c =
 
 loop-less-2 : tie.Need-loop-less-2 Inv-loop μ-loop
 loop-less-2 c =
-    let a = c .before .before .before .before .before .before .before .before .before .before .before .before .before .before .before .before .args in
-    let l = c .before .before .before .before .before .before .before .before .before .before .before .before .loop in
-    let room = c .before .before .before .before .before .before .before .before .before .before .before .before .before .before .before .before .pre .1 in
-    let s = c .before .before .before .before .before .before .before .before .before .before .sample in
-    let e = rw (l .inv .0) at (s .ensures) in
-    let d = c .before .before .before .before .before .before .before .draw .given in
+    let at = looking (c .before .before .before) in
+    let before = turning (drawing at) in
+    let a = begun before .args in
+    let l = before .loop in
+    let room = begun before .pre .1 in
+    let s = drawing at .sample in
+    let e = made (drawing at) in
+    let d = at .draw .given in
     omega (arith, words-fall (a .length) (a .amount) (a .budget) (a .rng) (now (a .indices)) room (l .state) (l .indices) (l .words) (l .count) (l .inv .1) (omega arith) (s .result) e (d .0 .0) (d .1))
 
 loop-again-2 : tie.Need-loop-again-2 Inv-loop μ-loop
 loop-again-2 c =
-    let a = c .before .before .before .before .before .before .before .before .before .before .before .before .before .before .before .before .args in
-    let l = c .before .before .before .before .before .before .before .before .before .before .before .before .loop in
-    let room = c .before .before .before .before .before .before .before .before .before .before .before .before .before .before .before .before .pre .1 in
-    let s = c .before .before .before .before .before .before .before .before .before .before .sample in
-    let e = rw (l .inv .0) at (s .ensures) in
-    let d = c .before .before .before .before .before .before .before .draw .given in
+    let at = looking (c .before .before .before) in
+    let before = turning (drawing at) in
+    let a = begun before .args in
+    let l = before .loop in
+    let room = begun before .pre .1 in
+    let s = drawing at .sample in
+    let e = made (drawing at) in
+    let d = at .draw .given in
     let new = c .before .before .before .is-new .ensures in
     let old : member (d .0 .0) (take (l .count) (l .indices)) ≡ true = not-false _ (sym (new .0) ∙ c .if1 .left) in
     (l .inv .0, dropped-turn (a .length) (a .amount) (a .budget) (a .rng) (now (a .indices)) room (l .state) (l .indices) (l .words) (l .count) (l .inv .1) (omega arith) (s .result) e (d .0 .0) (d .1) old, asked-same _ (take (l .count) (l .indices)) (d .0 .0) (new .1), search needs)
@@ -129,9 +159,9 @@ same-length-4 c = c .before .loop .inv .3
 
 returns-2 : tie.Need-returns-2 Inv-loop μ-loop
 returns-2 c =
-    let a = c .before .before .before .before .before .args in
+    let a = begun (c .before) .args in
     let l = c .before .loop in
-    let room = c .before .before .before .before .before .pre .1 in
+    let room = begun (c .before) .pre .1 in
     finish (a .length) (a .amount) (a .budget) (a .rng) (now (a .indices)) room (l .state) (l .indices) (l .words) (l .count) (l .inv .1) (omega arith)
 
 pub find-all-spec : {M : Type 1} → statement M
