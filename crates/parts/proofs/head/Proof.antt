@@ -1,6 +1,8 @@
 -- `head` meets its contract: the part before a clipped place is the part before that place. Assumes nothing.
+use mathlib.Core.Path.{ap, _∙_}
+use Prim.Native.Nat.{ℕ}
 use native.Mathlib.Omega.{arith}
-use lib.ListN.{length-take}
+use lib.ListN.{take, length-take}
 use denote.Ref.{now}
 use Rattle.parts.proofs.Parts.{take-clipped, at-start}
 use borrow.Author.Needs.{needs}
@@ -18,7 +20,7 @@ returns c =
     let items = c .before .before .before .args .items in
     record {
       place = at-start items;
-      holds = rw (c .before .clipped .ensures) (take-clipped (c .before .before .before .args .n) (now items));
+      holds = ap (λ (k : ℕ). take k (now items)) (c .before .clipped .ensures) ∙ take-clipped (c .before .before .before .args .n) (now items);
     }
 
 pub head-spec : {M : Type 1} → statement M

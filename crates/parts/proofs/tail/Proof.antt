@@ -1,6 +1,8 @@
 -- `tail` meets its contract: a part from a clipped place on is the part from that place on. Assumes nothing.
-use mathlib.Core.Path.{_∙_}
-use denote.Ref.{now}
+use mathlib.Core.Path.{ap, _∙_}
+use Prim.Native.Nat.{ℕ, _+_, _*_}
+use lib.ListN.{drop}
+use denote.Ref.{now, ptr}
 use Rattle.parts.proofs.Parts.{drop-clipped, take-rest}
 use borrow.Author.Needs.{needs}
 use Rattle.parts.proofs.tail.Statement.{statement}
@@ -23,10 +25,11 @@ part-result-end c = search needs
 
 returns : tie.Need-returns
 returns c =
-    let l = now (c .before .before .before .args .items) in
+    let items = c .before .before .before .args .items in
+    let clip = c .before .clipped .ensures in
     record {
-      place = rw (c .before .clipped .ensures);
-      holds = take-rest (c .before .clipped .result) l ∙ rw (c .before .clipped .ensures) (drop-clipped (c .before .before .before .args .n) l);
+      place = ap (λ (k : ℕ). (ptr items .0, k * 4 + ptr items .1)) clip;
+      holds = take-rest (c .before .clipped .result) (now items) ∙ ap (λ (k : ℕ). drop k (now items)) clip ∙ drop-clipped (c .before .before .before .args .n) (now items);
     }
 
 pub tail-spec : {M : Type 1} → statement M
