@@ -1,8 +1,8 @@
 -- `find_all` meets its contract. The invariant is `Turn`, and the filter has seen what is found. Assumes nothing.
 use mathlib.Core.Path.{_≡_, refl, sym, _∙_}
 use mathlib.Core.Bool.{true, false}
-use mathlib.Core.List.{[], _∷_, _++_}
-use Prim.Native.Nat.{_+_, _-_, _%_, _^_}
+use mathlib.Core.List.{List, [], _∷_, _++_}
+use Prim.Native.Nat.{ℕ, _+_, _-_, _%_, _^_, _≤_, _<_}
 use native.Mathlib.Omega.{arith}
 use native.Mathlib.Numerals.{add-one}
 use denote.Ref.{now}
@@ -43,6 +43,45 @@ looking c = c .before .before .before .before
 -- a turn's draw is the definition's, at the threshold that `new` gave
 made : (c : tie.After-sample Inv-loop μ-loop) → let l = turning c .loop in let a = begun (turning c) .args in shown (c .sample .result) ≡ draw (a .length) (a .budget - l .words) (l .state) (l .words)
 made c = rw (c .before .before .loop .inv .0) at (c .sample .ensures)
+
+-- ---- a turn that has drawn a value
+
+module _ (c : tie.After-draw Inv-loop μ-loop) where
+  abbrev at : tie.At-loop Inv-loop μ-loop
+  at = turning (drawing c)
+
+  abbrev value : ℕ
+  value = c .draw .given .0 .0
+
+  abbrev held : List ℕ
+  held = take (at .loop .count) (at .loop .indices)
+
+  -- the turn after it, with these indices, of which so many are found
+  abbrev Next : List ℕ → ℕ → Type 0
+  Next l count =
+      let a = begun at .args in
+      let s = drawing c .sample .result in
+      Turn (a .length) (a .amount) (a .budget) (a .rng) (now (a .indices)) (s .rng) l (s .words) count
+
+  record Turns : Type 0 where
+    fall : (at .loop .words < drawing c .sample .result .words) × (drawing c .sample .result .words ≤ begun at .args .budget)
+    kept : member value held ≡ false → Next (set (at .loop .indices) (at .loop .count) value) (at .loop .count + 1)
+    dropped : member value held ≡ true → Next (at .loop .indices) (at .loop .count)
+
+  turns : Turns
+  turns =
+      let a = begun at .args in
+      let l = at .loop in
+      let room = begun at .pre .1 in
+      let s = drawing c .sample .result in
+      let e = made (drawing c) in
+      let told = c .draw .given .1 in
+      let more : l .count < a .amount = omega arith in
+      record {
+        fall = words-fall (a .length) (a .amount) (a .budget) (a .rng) (now (a .indices)) room (l .state) (l .indices) (l .words) (l .count) (l .inv .1) more s e value told;
+        kept = λ new. kept-turn (a .length) (a .amount) (a .budget) (a .rng) (now (a .indices)) room (l .state) (l .indices) (l .words) (l .count) (l .inv .1) more s e value told new;
+        dropped = λ old. dropped-turn (a .length) (a .amount) (a .budget) (a .rng) (now (a .indices)) room (l .state) (l .indices) (l .words) (l .count) (l .inv .1) more s e value told old;
+      }
 
 -- ---- the needs
 
@@ -97,59 +136,26 @@ add-count : tie.Need-add-count Inv-loop μ-loop
 add-count c = search needs
 
 loop-less : tie.Need-loop-less Inv-loop μ-loop
-loop-less c =
-    let at = looking (c .before .before .before) in
-    let before = turning (drawing at) in
-    let a = begun before .args in
-    let l = before .loop in
-    let room = begun before .pre .1 in
-    let s = drawing at .sample in
-    let e = made (drawing at) in
-    let d = at .draw .given in
-    omega (arith, words-fall (a .length) (a .amount) (a .budget) (a .rng) (now (a .indices)) room (l .state) (l .indices) (l .words) (l .count) (l .inv .1) (omega arith) (s .result) e (d .0 .0) (d .1))
+loop-less c = omega (arith, turns (looking (c .before .before .before)) .fall)
 
 loop-again : tie.Need-loop-again Inv-loop μ-loop
 loop-again c =
-    let at = looking (c .before .before .before) in
-    let before = turning (drawing at) in
-    let a = begun before .args in
-    let l = before .loop in
-    let room = begun before .pre .1 in
-    let s = drawing at .sample in
-    let e = made (drawing at) in
-    let d = at .draw .given in
+    let d = looking (c .before .before .before) in
+    let l = at d .loop in
     let new = c .before .before .before .is-new .ensures in
     let long = l .inv .1 .long in
-    let fresh : member (d .0 .0) (take (l .count) (l .indices)) ≡ false = not-true _ (sym (new .0) ∙ c .if1 .taken) in
-    let front : take (l .count + 1) (set (l .indices) (l .count) (d .0 .0)) ≡ take (l .count) (l .indices) ++ (d .0 .0 ∷ []) =
-    rw (add-one (l .count)) (take-suc-set (l .indices) (l .count) (d .0 .0) (omega arith)) in
-    (l .inv .0, kept-turn (a .length) (a .amount) (a .budget) (a .rng) (now (a .indices)) room (l .state) (l .indices) (l .words) (l .count) (l .inv .1) (omega arith) (s .result) e (d .0 .0) (d .1) fresh, rw front (asked-grown _ (take (l .count) (l .indices)) (d .0 .0) (new .1)), search needs)
+    let front : take (l .count + 1) (set (l .indices) (l .count) (value d)) ≡ held d ++ (value d ∷ []) =
+    rw (add-one (l .count)) (take-suc-set (l .indices) (l .count) (value d) (omega arith)) in
+    (l .inv .0, turns d .kept (not-true _ (sym (new .0) ∙ c .if1 .taken)), rw front (asked-grown _ (held d) (value d) (new .1)), search needs)
 
 loop-less-2 : tie.Need-loop-less-2 Inv-loop μ-loop
-loop-less-2 c =
-    let at = looking (c .before .before .before) in
-    let before = turning (drawing at) in
-    let a = begun before .args in
-    let l = before .loop in
-    let room = begun before .pre .1 in
-    let s = drawing at .sample in
-    let e = made (drawing at) in
-    let d = at .draw .given in
-    omega (arith, words-fall (a .length) (a .amount) (a .budget) (a .rng) (now (a .indices)) room (l .state) (l .indices) (l .words) (l .count) (l .inv .1) (omega arith) (s .result) e (d .0 .0) (d .1))
+loop-less-2 c = omega (arith, turns (looking (c .before .before .before)) .fall)
 
 loop-again-2 : tie.Need-loop-again-2 Inv-loop μ-loop
 loop-again-2 c =
-    let at = looking (c .before .before .before) in
-    let before = turning (drawing at) in
-    let a = begun before .args in
-    let l = before .loop in
-    let room = begun before .pre .1 in
-    let s = drawing at .sample in
-    let e = made (drawing at) in
-    let d = at .draw .given in
+    let d = looking (c .before .before .before) in
     let new = c .before .before .before .is-new .ensures in
-    let old : member (d .0 .0) (take (l .count) (l .indices)) ≡ true = not-false _ (sym (new .0) ∙ c .if1 .left) in
-    (l .inv .0, dropped-turn (a .length) (a .amount) (a .budget) (a .rng) (now (a .indices)) room (l .state) (l .indices) (l .words) (l .count) (l .inv .1) (omega arith) (s .result) e (d .0 .0) (d .1) old, asked-same _ (take (l .count) (l .indices)) (d .0 .0) (new .1), search needs)
+    (at d .loop .inv .0, turns d .dropped (not-false _ (sym (new .0) ∙ c .if1 .left)), asked-same _ (held d) (value d) (new .1), search needs)
 
 same-length-3 : tie.Need-same-length-3 Inv-loop μ-loop
 same-length-3 c = c .before .loop .inv .1 .long
