@@ -1,5 +1,5 @@
 -- `of_two_words` meets its contract: its value is below `range`, so that it fits. Assumes nothing.
-use mathlib.Core.Path.{_≡_}
+use mathlib.Core.Path.{_≡_, sym}
 use Prim.Native.Nat.{_^_, _<_}
 use native.Mathlib.Omega.{arith}
 use lib.Pow.{pow-pos}
@@ -39,7 +39,8 @@ cast-result c =
 returns : tie.Need-returns
 returns c =
     let a = c .before .before .before .before .before .args in
-    cc (value-two (2 ^ 32) (a .range) (a .a) (a .b) (pow-pos 32))
+    let first = c .before .before .before .before .wmul .ensures in
+    rw (first .high, first .low, c .before .before .before .wmul2 .ensures .high) (sym (value-two (2 ^ 32) (a .range) (a .a) (a .b) (pow-pos 32)))
 
 pub of-two-words-spec : {M : Type 1} → statement M
 of-two-words-spec =

@@ -1,4 +1,5 @@
 -- `random_range` meets its contract: by `one-word` where one word settles the value, else by `two-words`. Assumes nothing.
+use mathlib.Core.Path.{sym}
 use Prim.Native.Nat.{_^_}
 use native.Mathlib.Omega.{arith}
 use borrow.Author.Needs.{needs}
@@ -24,7 +25,7 @@ returns c =
     let a = c .before .before .before .before .before .args in
     let w = c .before .before .before .before .next-u32 .ensures in
     let p = rw (w .value) at (c .before .before .wmul .ensures .low) in
-    cc (one-word (a .range) (a .rng) (omega arith) (omega arith) (omega arith))
+    rw (c .before .before .wmul .ensures .high, w .value, w .rng) (sym (one-word (a .range) (a .rng) (omega arith) (omega arith) (omega arith)))
 
 next-u32-requires-2 : tie.Need-next-u32-requires-2
 next-u32-requires-2 c κs = search needs
@@ -37,7 +38,8 @@ returns-2 c =
     let a = c .before .before .before .before .before .before .before .before .args in
     let w = c .before .before .before .before .before .before .before .next-u32 .ensures in
     let p = rw (w .value) at (c .before .before .before .before .before .wmul .ensures .low) in
-    cc (two-words (a .range) (a .rng) (omega arith))
+    let v = c .before .before .next-u322 .ensures in
+    rw (c .of-two-words .ensures, v .value, v .rng, w .value, w .rng) (sym (two-words (a .range) (a .rng) (omega arith)))
 
 pub random-range-spec : {M : Type 1} → statement M
 random-range-spec =

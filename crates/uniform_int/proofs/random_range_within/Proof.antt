@@ -40,7 +40,7 @@ returns-3 c =
     let two = words-le (a .range) (a .rng) in
     let one : a .budget - a .words ≡ 1 = omega arith in
     let all : a .words + 1 ≡ a .budget = omega arith in
-    cc (within-short (a .range) (a .budget - a .words) (a .words) (a .rng) one (omega arith))
+    rw (c .before .next-u32 .ensures .rng) (sym (rw all at (within-short (a .range) (a .budget - a .words) (a .words) (a .rng) one (omega arith))))
 
 pub random-range-within-spec : {M : Type 1} → statement M
 random-range-within-spec =

@@ -1,6 +1,6 @@
 -- `UniformInt::sample` meets its contract. The invariant: the rest of the draw from here is the whole draw.
 -- Assumes nothing.
-use mathlib.Core.Path.{_≡_, refl}
+use mathlib.Core.Path.{_≡_, refl, sym, _∙_}
 use mathlib.Core.Bool.{true, false}
 use Prim.Native.Nat.{_-_, _*_, _%_, _^_}
 use native.Mathlib.Omega.{arith}
@@ -42,13 +42,13 @@ loop-again c =
     let w = c .before .before .before .before .next-u32 in
     let here : accepts (2 ^ 32) (a .self .range) (a .self .thresh) (w .result .value) ≡ false =
     lt-leb _ (w .result .value * a .self .range % 2 ^ 32) (omega (arith, c .before .before .wmul .ensures .low)) in
-    cc (word-dropped (2 ^ 32) word (a .self .range) (a .self .thresh) (a .budget) (l .read) (l .state) (omega arith) (rw (w .ensures .value) at here))
+    rw (w .ensures .rng) (sym (word-dropped (2 ^ 32) word (a .self .range) (a .self .thresh) (a .budget) (l .read) (l .state) (omega arith) (rw (w .ensures .value) at here)) ∙ l .inv)
 
 returns : tie.Need-returns Inv-loop μ-loop
 returns c =
     let a = c .before .before .args in
     let l = c .before .loop in
-    cc (no-word-left (2 ^ 32) word (a .self .range) (a .self .thresh) (a .budget) (l .read) (l .state) (c .if1 .taken))
+    sym (no-word-left (2 ^ 32) word (a .self .range) (a .self .thresh) (a .budget) (l .read) (l .state) (c .if1 .taken)) ∙ l .inv
 
 returns-2 : tie.Need-returns-2 Inv-loop μ-loop
 unfolding accepts scaled
@@ -58,7 +58,7 @@ returns-2 c =
     let w = c .before .before .before .before .next-u32 in
     let here : accepts (2 ^ 32) (a .self .range) (a .self .thresh) (w .result .value) ≡ true =
     le-leb _ (w .result .value * a .self .range % 2 ^ 32) (omega (arith, c .before .before .wmul .ensures .low)) in
-    cc (word-accepted (2 ^ 32) word (a .self .range) (a .self .thresh) (a .budget) (l .read) (l .state) (omega arith) (rw (w .ensures .value) at here))
+    rw (c .before .before .wmul .ensures .high, w .ensures .value, w .ensures .rng) (sym (word-accepted (2 ^ 32) word (a .self .range) (a .self .thresh) (a .budget) (l .read) (l .state) (omega arith) (rw (w .ensures .value) at here)) ∙ l .inv)
 
 pub sample-spec : {M : Type 1} → statement M
 sample-spec =
