@@ -13,7 +13,7 @@ is-zero-requires : tie.Need-is-zero-requires
 is-zero-requires c κs = search needs
 
 returns : tie.Need-returns
-returns c = sym (zero-state (c .before .before .args .rng) (cc))
+returns c = sym (zero-state (c .before .before .args .rng) (sym (c .before .is-zero .ensures) ∙ c .if1 .taken))
 
 next-u32-requires : tie.Need-next-u32-requires
 next-u32-requires c κs = search needs
@@ -21,7 +21,7 @@ next-u32-requires c κs = search needs
 returns-2 : tie.Need-returns-2
 returns-2 c =
     let word = c .before .next-u32 .ensures in
-    ap₂ (λ (v : ℕ) (g : Xoshiro256PlusPlus). ended (Word v) 1 g) (word .value) (word .rng) ∙ sym (one-word (c .before .before .before .before .args .rng) (cc))
+    ap₂ (λ (v : ℕ) (g : Xoshiro256PlusPlus). ended (Word v) 1 g) (word .value) (word .rng) ∙ sym (one-word (c .before .before .before .before .args .rng) (sym (c .before .before .before .is-zero .ensures) ∙ c .before .before .if1 .left))
 
 pub step-spec : {M : Type 1} → statement M
 step-spec = tie.close (tie.spec is-zero-requires returns next-u32-requires returns-2)

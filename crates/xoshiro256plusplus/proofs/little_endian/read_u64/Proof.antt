@@ -36,7 +36,7 @@ loop-less : tie.Need-loop-less Inv-loop μ-loop
 loop-less c = omega arith
 
 loop-again : tie.Need-loop-again Inv-loop μ-loop
-loop-again c = turn _ _ _ _ _ (omega arith) (omega arith) (c .before .before .before .loop .inv) (cc)
+loop-again c = turn _ _ _ _ _ (omega arith) (omega arith) (c .before .before .before .loop .inv) (c .wide .ensures .0)
 
 returns : tie.Need-returns Inv-loop μ-loop
 returns c = finish (omega arith) (c .before .loop .inv)
