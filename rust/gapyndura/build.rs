@@ -6,9 +6,14 @@ use std::path::PathBuf;
 /// Where `rt staticlib capi` lays the archive, seen from this package.
 const FOLDER: &str = "../../target/staticlib";
 
+/// The variable that names another folder, with the archive of another version.
+const OTHER: &str = "GAPYNDURA_ARCHIVE";
+
 fn main() {
     let package = env::var_os("CARGO_MANIFEST_DIR").expect("Cargo sets CARGO_MANIFEST_DIR");
-    let folder = PathBuf::from(package).join(FOLDER);
+    let folder = env::var_os(OTHER).unwrap_or_else(|| FOLDER.into());
+    let folder = PathBuf::from(package).join(folder);
+    println!("cargo::rerun-if-env-changed={OTHER}");
     let archive = folder.join("libcapi.a");
     println!("cargo::rerun-if-changed={}", archive.display());
     if !archive.is_file() {

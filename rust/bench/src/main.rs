@@ -1,6 +1,7 @@
 //! Measures Gapyndura's calls against rand's, in one run, and prints tables in Markdown.
 
 mod allocation;
+mod before;
 mod choices;
 mod generators;
 mod numbers;
@@ -13,6 +14,7 @@ mod views;
 mod weights;
 
 use std::env;
+use std::io;
 use std::process::ExitCode;
 use std::time::Duration;
 
@@ -48,35 +50,78 @@ const QUICK: Plan = Plan {
     ..PLAN
 };
 
-fn main() -> ExitCode {
-    let mut plan = PLAN;
-    let mut part = None;
-    for word in env::args().skip(1) {
-        match word.as_str() {
-            "--quick" => plan = QUICK,
-            _ if word.starts_with('-') || part.is_some() => return usage(),
-            _ => part = Some(word),
-        }
-    }
-    let part = part.unwrap_or_default();
-    let groups = selected(&part);
-    if groups.is_empty() {
-        eprintln!("bench: no case has {part} in its name");
-        return ExitCode::from(2);
-    }
-    println!(
-        "Nanoseconds a call; the ratio is ours to rand's. Medians of the blocks of each side, which take turns for {:?} a case.",
-        plan.time
-    );
-    for (title, cases) in groups {
-        table::print(title, &cases, &plan);
-    }
-    ExitCode::SUCCESS
+/// What is asked for.
+struct Asked {
+    plan: Plan,
+    /// Another build of this program, to be measured in rand's place.
+    before: Option<String>,
+    /// Whether another build asks.
+    serves: bool,
+    part: String,
 }
 
-fn usage() -> ExitCode {
-    eprintln!("usage: bench [--quick] [PART OF A CASE'S NAME]");
-    ExitCode::from(2)
+fn main() -> ExitCode {
+    let Some(asked) = asked(env::args().skip(1)) else {
+        eprintln!(
+            "usage: bench [--quick] [--before ANOTHER BUILD OF BENCH] [PART OF A CASE'S NAME]"
+        );
+        return ExitCode::from(2);
+    };
+    let groups = selected(&asked.part);
+    if groups.is_empty() {
+        eprintln!("bench: no case has {} in its name", asked.part);
+        return ExitCode::from(2);
+    }
+    match run(&asked, &groups) {
+        Ok(()) => ExitCode::SUCCESS,
+        Err(error) => {
+            eprintln!("bench: {error}");
+            ExitCode::from(2)
+        }
+    }
+}
+
+/// The words of the command line, or none where they are wrong.
+fn asked(mut words: impl Iterator<Item = String>) -> Option<Asked> {
+    let mut asked = Asked {
+        plan: PLAN,
+        before: None,
+        serves: false,
+        part: String::new(),
+    };
+    while let Some(word) = words.next() {
+        match word.as_str() {
+            "--quick" => asked.plan = QUICK,
+            "--before" => asked.before = Some(words.next()?),
+            before::SERVE => asked.serves = true,
+            _ if word.starts_with('-') || !asked.part.is_empty() => return None,
+            _ => asked.part = word,
+        }
+    }
+    Some(asked)
+}
+
+fn run(asked: &Asked, groups: &[(&'static str, Vec<Case>)]) -> io::Result<()> {
+    if asked.serves {
+        let mut cases = groups.iter().flat_map(|(_, cases)| cases);
+        let case = cases.find(|case| case.name() == asked.part);
+        return before::serve(case.ok_or(io::ErrorKind::NotFound)?);
+    }
+    let sides = match asked.before {
+        None => "ours to rand's",
+        Some(_) => "this build's to the other's",
+    };
+    println!(
+        "Nanoseconds a call; the ratio is {sides}. Medians of the blocks of each side, which take turns for {:?} a case.",
+        asked.plan.time
+    );
+    for (title, cases) in groups {
+        match &asked.before {
+            None => table::print(title, cases, &asked.plan),
+            Some(before) => table::print_before(title, cases, &asked.plan, before)?,
+        }
+    }
+    Ok(())
 }
 
 /// The cases with this in their names, by their tables.

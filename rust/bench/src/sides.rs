@@ -126,7 +126,7 @@ where
     }
 }
 
-/// Both sides, and what the first call of each has allocated: rand's and then the port's.
+/// Both sides, rand's and then the port's, or the port's before and after; and what the first call of each of the former has allocated.
 pub struct Sides {
     pub timed: [Box<dyn Timed>; 2],
     pub heap: [Allocated; 2],
@@ -161,6 +161,20 @@ impl Sides {
         }
     }
 
+    /// The port's side alone.
+    pub fn port(self) -> Box<dyn Timed> {
+        let [_, port] = self.timed;
+        port
+    }
+
+    /// The port's side beside another.
+    pub fn beside(self, other: impl Timed + 'static) -> Self {
+        Self {
+            heap: self.heap,
+            timed: [Box::new(other), self.port()],
+        }
+    }
+
     /// The times of so many calls from this state, made as many times over as each side's number says. The side of that number
     /// goes first.
     ///
@@ -178,8 +192,8 @@ impl Sides {
         for side in [first, 1 - first] {
             times[side] = self.timed[side].time(from, calls, rounds[side]);
         }
-        let [rand, port] = self.timed.each_ref().map(|side| side.state());
-        assert_eq!(port, rand, "both sides read the same words");
+        let [other, port] = self.timed.each_ref().map(|side| side.state());
+        assert_eq!(port, other, "both sides read the same words");
         times
     }
 }

@@ -1,12 +1,18 @@
 //! The tables.
 
+use std::io;
+
 use crate::allocation::Allocated;
+use crate::before::Before;
 use crate::numbers::{grouped, rounded};
 use crate::sides::Case;
-use crate::timing::Plan;
+use crate::timing::{Measured, Plan};
 
 /// The first cells of a line.
 const TIMES: &str = "| Case | Call | rand | ours | ratio |";
+
+/// The same where another build is measured.
+const VERSIONS: &str = "| Case | Call | before | after | ratio |";
 
 /// The further ones where a table tells of memory.
 const MEMORY: &str = " rand allocates | ours allocates | ours is lent |";
@@ -27,16 +33,36 @@ pub fn print(title: &str, cases: &[Case], plan: &Plan) {
     }
 }
 
-fn line(case: &Case, plan: &Plan) -> String {
-    let mut sides = (case.sides)();
-    let measured = plan.measure(&mut sides);
-    let mut cells = vec![
+/// Measures the cases against another build of this program, and prints a line for each.
+///
+/// # Errors
+///
+/// If that build cannot be run.
+pub fn print_before(title: &str, cases: &[Case], plan: &Plan, before: &str) -> io::Result<()> {
+    println!("\n## {title}\n\n{VERSIONS}\n|---|---|---:|---:|---:|");
+    for case in cases {
+        let other = Before::start(before, &case.name())?;
+        let mut sides = (case.sides)().beside(other);
+        let measured = plan.measure(&mut sides);
+        println!("| {} |", times(case, &measured).join(" | "));
+    }
+    Ok(())
+}
+
+/// The first cells of a case's line.
+fn times(case: &Case, measured: &Measured) -> Vec<String> {
+    vec![
         case.size.clone(),
         case.call.to_owned(),
-        rounded(measured.rand, 1),
+        rounded(measured.other, 1),
         rounded(measured.port, 1),
         rounded(measured.ratio, 2),
-    ];
+    ]
+}
+
+fn line(case: &Case, plan: &Plan) -> String {
+    let mut sides = (case.sides)();
+    let mut cells = times(case, &plan.measure(&mut sides));
     if let Some(lent) = case.lent {
         cells.extend(sides.heap.map(heap_text));
         cells.push(bytes(lent));

@@ -27,7 +27,7 @@ const TRIES: usize = 3;
 
 /// The medians of all blocks: of the nanoseconds that a call takes on each side, and of the ratio of neighbouring blocks.
 pub struct Measured {
-    pub rand: f64,
+    pub other: f64,
     pub port: f64,
     pub ratio: f64,
 }
@@ -42,7 +42,7 @@ impl Plan {
     /// Measures both sides. In a block they have the same state and make the same calls, and the side that goes first takes turns.
     pub fn measure(&self, sides: &mut Sides) -> Measured {
         let Block { calls, rounds } = self.block(sides);
-        let mut rand = Vec::new();
+        let mut other = Vec::new();
         let mut port = Vec::new();
         let started = Instant::now();
         for block in (0..).take_while(|&block| block < FEWEST || started.elapsed() < self.time) {
@@ -50,13 +50,13 @@ impl Plan {
             let nanoseconds = |side: usize| {
                 times[side].as_nanos() as f64 / f64::from(calls) / f64::from(rounds[side])
             };
-            rand.push(nanoseconds(0));
+            other.push(nanoseconds(0));
             port.push(nanoseconds(1));
         }
-        let ratios = port.iter().zip(&rand).map(|(port, rand)| port / rand);
+        let ratios = port.iter().zip(&other).map(|(port, other)| port / other);
         Measured {
             ratio: median(ratios.collect()),
-            rand: median(rand),
+            other: median(other),
             port: median(port),
         }
     }
