@@ -81,6 +81,11 @@ by-hand n h =
     let le : size n ≤ 32 = size-le n 32 h in
     shifted-whole (nearestEven n (unit24 n)) (size n - 24) (kept-le n) (omega arith)
 
+-- as an f32 a word is the number rounded to 24 digits
+pub f32-value : (n : ℕ) → n < 2 ^ 32 → HasValue (f32Of n) false (round24 n) 1
+unfolding f32Of ofInt
+f32-value = by-hand
+
 -- ---- a value is written in one way
 
 rounded : (n : ℕ) → n < 2 ^ 32 → f32Of n ≡ ofInt binary32 (pos n)
