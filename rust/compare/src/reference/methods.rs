@@ -159,8 +159,27 @@ pub fn by_rand(rng: &mut Xoshiro256PlusPlus, length: u32, amount: u32) -> Sample
     sample
 }
 
-/// The largest amount for which Floyd's method is tried. It takes the amount's square of steps.
-const FLOYD_TRIED: u32 = 5000;
+/// The least length at which Floyd's method is due for this amount.
+///
+/// # Panics
+///
+/// If it is due at no length, as for amounts from 163 on.
+#[must_use]
+pub fn floyd_from(amount: u32) -> u32 {
+    let mut lengths = 0..=u32::MAX;
+    let found = lengths.find(|&length| due(length, amount) == Method::Floyd);
+    found.expect("Floyd's method is due to amount 162")
+}
+
+/// Whether a method is tried. Floyd's takes the amount's square of steps; the one in place the length's memory, so that for few indices it is
+/// tried at short lengths only.
+fn is_tried(method: Method, length: u32, amount: u32) -> bool {
+    match method {
+        Method::Floyd => amount <= 5000,
+        Method::InPlace => amount > 170 || length <= 1_000_000,
+        Method::Rejection => true,
+    }
+}
 
 /// The methods that give rand's sample from this generator: the indices, the words and the generator afterwards.
 #[must_use]
@@ -169,7 +188,7 @@ pub fn seen(rng: &Xoshiro256PlusPlus, length: u32, amount: u32) -> Vec<Method> {
     let (indices, words) = rand(&mut after, length, amount);
     let tried = Method::ALL
         .into_iter()
-        .filter(|&method| method != Method::Floyd || amount <= FLOYD_TRIED);
+        .filter(|&method| is_tried(method, length, amount));
     let gives = |method: &Method| {
         let mut again = rng.clone();
         let sample = draw(*method, &mut again, length, amount, &RAND);
@@ -183,7 +202,7 @@ mod tests {
     use rand::SeedableRng;
     use rand::rngs::Xoshiro256PlusPlus;
 
-    use super::{Method, due, seen};
+    use super::{Method, due, floyd_from, seen};
 
     /// Document 01's marked choices, each seen in rand's own sample.
     #[test]
@@ -200,6 +219,19 @@ mod tests {
         ] {
             assert_eq!(due(length, amount), method);
             assert_eq!(seen(&rng, length, amount), [method]);
+        }
+    }
+
+    #[test]
+    fn the_choice_turns_to_floyds_method_and_never_back() {
+        assert_eq!((floyd_from(0), floyd_from(11)), (0, 0));
+        for amount in 12..=162 {
+            let entry = floyd_from(amount);
+            assert_eq!(due(entry - 1, amount), Method::InPlace);
+            let longer = (entry..600_000).chain([(1 << 24) - 1, (1 << 24) + 1, u32::MAX]);
+            for length in longer {
+                assert_eq!(due(length, amount), Method::Floyd);
+            }
         }
     }
 

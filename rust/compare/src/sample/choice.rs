@@ -7,7 +7,7 @@ use gapyndura::index::sample;
 use gapyndura::{Refusal, Xoshiro256PlusPlus as Port};
 use rand::SeedableRng;
 use rand::rngs::Xoshiro256PlusPlus as Rand;
-use reference::methods::{Method, due, seen};
+use reference::methods::{Method, due, floyd_from, seen};
 
 use crate::inputs::{Source, smaller};
 use crate::kind::Kind;
@@ -22,6 +22,8 @@ pub struct Choice {
     indices: RefCell<&'static mut [u32]>,
     /// Fault `length-rounding`: from 163 on the length is compared as it is, not rounded to 24 bits.
     keeps_length: bool,
+    /// Fault `entry-before`: from 13 to 162 the table is asked for the amount before.
+    asks_before: bool,
 }
 
 /// A length and an amount that is not above it.
@@ -35,7 +37,7 @@ pub struct Input {
 
 impl Kind for Choice {
     const NAME: &'static str = "sample, the choice of its method";
-    const FAULTS: &'static [&'static str] = &["length-rounding"];
+    const FAULTS: &'static [&'static str] = &["length-rounding", "entry-before"];
     type Input = Input;
     /// None is an answer that no method gives.
     type Answer = Option<Method>;
@@ -44,6 +46,7 @@ impl Kind for Choice {
         Self {
             indices: RefCell::new(without_memory(u32::MAX as usize)),
             keeps_length: plant == Some("length-rounding"),
+            asks_before: plant == Some("entry-before"),
         }
     }
 
@@ -51,6 +54,9 @@ impl Kind for Choice {
         for amount in 0..=170 {
             (amount..=40).for_each(|length| visit(input(length, amount, true)));
             near_lines(amount, |length| visit(input(length, amount, true)));
+        }
+        for amount in 12..=162 {
+            at_entry(amount, |length| visit(input(length, amount, true)));
         }
         for amount in [2000, 13_638] {
             near_lines(amount, |length| {
@@ -130,6 +136,9 @@ impl Kind for Choice {
                 Method::Rejection
             });
         }
+        if self.asks_before && (13..=162).contains(&amount) {
+            return Some(due(length, amount - 1));
+        }
         let mut rng = Port::from_state([1, 2, 3, 4]);
         let mut indices = self.indices.borrow_mut();
         let indices = &mut indices[..amount as usize];
@@ -150,6 +159,15 @@ fn input(length: u32, amount: u32, is_seen: bool) -> Input {
         amount: amount.min(length),
         is_seen,
     }
+}
+
+/// The lengths at which the port's table could be wrong for this amount: next to its entry, to the length from which another line holds and to the
+/// first that is rounded, and the greatest.
+fn at_entry(amount: u32, visit: impl FnMut(u32)) {
+    let entry = floyd_from(amount);
+    let near = [entry, 500_000].map(|at| [at - 1, at, at + 1]);
+    let long = [(1 << 24) - 1, 1 << 24, (1 << 24) + 1, u32::MAX];
+    near.into_iter().flatten().chain(long).for_each(visit);
 }
 
 /// The lengths next to the lines at this amount, and next to the length from which other lines hold.
