@@ -1,6 +1,6 @@
 -- For amounts 12 to 162 the choice turns once as the length grows, from in place to Floyd's method, and never back.
 -- Assumes nothing.
-use mathlib.Core.Path.{_≡_, refl, sym, _∙_, subst}
+use mathlib.Core.Path.{_≡_, refl, subst}
 use mathlib.Core.Logic.{_⊎_, inl, inr}
 use mathlib.Core.Bool.{Bool, true, false, not}
 use Prim.Native.Nat.{ℕ, _+_, _-_, _^_, _≤_, _<_}
@@ -10,7 +10,6 @@ use lib.Ieee.{ofInt, add, mul, div, lt}
 use borrow.Author.Tests.{lt-ltb, le-ltb, ltb-true, ltb-false}
 use Rattle.crossover.specs.Rounding.{nearestEven, unit24, round24, f32Of}
 use Rattle.crossover.specs.Lines.{fraction, isShort, shortLine, longLine, lineOf, belowLine}
-use Rattle.crossover.specs.Method.{methodOf}
 use Rattle.crossover.specs.Table.{FloydFrom, OneEntry}
 use Rattle.crossover.specs.declared.lines.Line.{Line}
 use Rattle.crossover.specs.declared.Method.{Method}

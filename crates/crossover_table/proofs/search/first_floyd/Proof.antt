@@ -1,6 +1,6 @@
 -- `first_floyd` meets its contract. The loop's invariant: every shorter length lies below its line. It ends, since from 500,000 on none does.
 -- Assumes nothing.
-use Prim.Native.Nat.{ℕ, _-_, _^_, _≤_, _<_}
+use Prim.Native.Nat.{ℕ, _-_, _≤_, _<_}
 use native.Mathlib.Omega.{arith}
 use lib.Dec.{T}
 use borrow.Author.Needs.{needs}
