@@ -16,7 +16,7 @@
 
 /* The version: 1 for the base, and one more with each request (docs/requests/). A caller can test it by #if; CHANGELOG.md says what has
  * to be changed in the caller, if anything has. */
-#define GAPYNDURA_VERSION 2
+#define GAPYNDURA_VERSION 3
 
 #ifdef __cplusplus
 extern "C" {

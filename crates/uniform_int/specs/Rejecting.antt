@@ -41,7 +41,7 @@ accepts M r t a = leb t (a * r % M)
 unfoldable pub scaled : (M r a : ℕ) → ℕ
 scaled M r a = a * r / M
 
--- with n words left to read, and k read before
+-- the words one after another, at any threshold t: with n left to read, and k read before
 unfoldable pub rejectingAt : (M : ℕ) (read : Xoshiro256PlusPlus → ℕ) (r t n : ℕ) → Xoshiro256PlusPlus → ℕ → Drawing
 rejectingAt M read r t zero g k = spent k g
 rejectingAt M read r t (suc n) g k =

@@ -3,6 +3,7 @@
 mod allocation;
 mod before;
 mod choices;
+mod divisions;
 mod generators;
 mod numbers;
 mod samples;
@@ -29,10 +30,11 @@ static ALLOCATOR: Counting = Counting;
 type Group = (&'static str, fn() -> Vec<Case>);
 
 /// The tables, in the order in which they are printed.
-const GROUPS: [Group; 6] = [
+const GROUPS: [Group; 7] = [
     ("`sample` of indices", samples::cases),
     ("Shuffles and the reservoir", shuffles::cases),
     ("The weight table", weights::cases),
+    ("Divisions of a rejecting draw", divisions::cases),
     ("Choosers", choices::cases),
     ("Generators", generators::cases),
     ("Views", views::cases),

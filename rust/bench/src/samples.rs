@@ -51,7 +51,7 @@ fn power_or_digits(length: u32) -> String {
     }
 }
 
-fn sides(amount: u32, length: u32) -> Sides {
+pub fn sides(amount: u32, length: u32) -> Sides {
     let indices = vec![0; amount as usize];
     let scratch = vec![0; scratch(length, amount)];
     Sides::new(

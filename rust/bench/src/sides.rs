@@ -1,4 +1,4 @@
-//! The two sides of a case: the same call with the same inputs, by rand and by the port.
+//! The sides of a case: the same call with the same inputs, by rand and by the port.
 
 use std::fmt::Debug;
 use std::hint::black_box;
@@ -126,9 +126,10 @@ where
     }
 }
 
-/// Both sides, rand's and then the port's, or the port's before and after; and what the first call of each of the former has allocated.
+/// The sides: rand's and the port's, or the port's before and after, with copies of rand's call between them. The port's is the last. And what the first
+/// calls of rand and of the port have allocated.
 pub struct Sides {
-    pub timed: [Box<dyn Timed>; 2],
+    pub timed: Vec<Box<dyn Timed>>,
     pub heap: [Allocated; 2],
 }
 
@@ -156,23 +157,28 @@ impl Sides {
         assert_eq!(port, rand, "both sides give the same");
         assert_eq!(port_heap.times, 0, "the port allocates nothing");
         Self {
-            timed: [Box::new(theirs), Box::new(ours)],
+            timed: vec![Box::new(theirs), Box::new(ours)],
             heap: [rand_heap, port_heap],
         }
     }
 
     /// The port's side alone.
-    pub fn port(self) -> Box<dyn Timed> {
-        let [_, port] = self.timed;
-        port
+    pub fn port(mut self) -> Box<dyn Timed> {
+        self.timed.pop().expect("the port's is the last")
     }
 
     /// The port's side beside another.
     pub fn beside(self, other: impl Timed + 'static) -> Self {
         Self {
             heap: self.heap,
-            timed: [Box::new(other), self.port()],
+            timed: vec![Box::new(other), self.port()],
         }
+    }
+
+    /// With a copy of rand's call before the port's.
+    pub fn with(mut self, copy: impl Timed + 'static) -> Self {
+        self.timed.insert(self.timed.len() - 1, Box::new(copy));
+        self
     }
 
     /// The times of so many calls from this state, made as many times over as each side's number says. The side of that number
@@ -185,15 +191,17 @@ impl Sides {
         &mut self,
         from: State,
         calls: u32,
-        rounds: [u32; 2],
+        rounds: &[u32],
         first: usize,
-    ) -> [Duration; 2] {
-        let mut times = [Duration::ZERO; 2];
-        for side in [first, 1 - first] {
+    ) -> Vec<Duration> {
+        let sides = self.timed.len();
+        let mut times = vec![Duration::ZERO; sides];
+        for side in (0..sides).map(|turn| (first + turn) % sides) {
             times[side] = self.timed[side].time(from, calls, rounds[side]);
         }
-        let [other, port] = self.timed.each_ref().map(|side| side.state());
-        assert_eq!(port, other, "both sides read the same words");
+        for pair in self.timed.windows(2) {
+            assert_eq!(pair[0].state(), pair[1].state(), "they read the same words");
+        }
         times
     }
 }
@@ -204,6 +212,8 @@ pub struct Case {
     pub call: &'static str,
     /// How large it is.
     pub size: String,
+    /// What stands beside the port, in order.
+    pub others: &'static [&'static str],
     /// The bytes that the port is lent to write, where the table tells of memory.
     pub lent: Option<usize>,
     pub sides: Box<dyn Fn() -> Sides>,
@@ -218,6 +228,7 @@ impl Case {
         Self {
             call,
             size: size.into(),
+            others: &["rand"],
             lent: None,
             sides: Box::new(sides),
         }

@@ -8,11 +8,8 @@ use crate::numbers::{grouped, rounded};
 use crate::sides::Case;
 use crate::timing::{Measured, Plan};
 
-/// The first cells of a line.
-const TIMES: &str = "| Case | Call | rand | ours | ratio |";
-
-/// The same where another build is measured.
-const VERSIONS: &str = "| Case | Call | before | after | ratio |";
+/// The first cells of a table where another build is measured.
+const VERSIONS: &str = "| Case | Call | before | after | ratio |\n|---|---|---:|---:|---:|";
 
 /// The further ones where a table tells of memory.
 const MEMORY: &str = " rand allocates | ours allocates | ours is lent |";
@@ -25,12 +22,23 @@ pub fn print(title: &str, cases: &[Case], plan: &Plan) {
     } else {
         ("", "")
     };
+    let others = cases[0].others;
     println!("\n## {title}\n");
-    println!("{TIMES}{names}");
-    println!("|---|---|---:|---:|---:|{rules}");
+    println!("{}{names}", heads(others));
+    println!("|---|---|---:|{}{rules}", "---:|---:|".repeat(others.len()));
     for case in cases {
         println!("{}", line(case, plan));
     }
+}
+
+/// The heads of the times: each side's, and ours to each other's.
+fn heads(others: &[&str]) -> String {
+    let times = others.join(" | ");
+    let ratios = match others {
+        [_] => "ratio".to_owned(),
+        _ => format!("ratio to {}", others.join(" | to ")),
+    };
+    format!("| Case | Call | {times} | ours | {ratios} |")
 }
 
 /// Measures the cases against another build of this program, and prints a line for each.
@@ -39,7 +47,7 @@ pub fn print(title: &str, cases: &[Case], plan: &Plan) {
 ///
 /// If that build cannot be run.
 pub fn print_before(title: &str, cases: &[Case], plan: &Plan, before: &str) -> io::Result<()> {
-    println!("\n## {title}\n\n{VERSIONS}\n|---|---|---:|---:|---:|");
+    println!("\n## {title}\n\n{VERSIONS}");
     for case in cases {
         let other = Before::start(before, &case.name())?;
         let mut sides = (case.sides)().beside(other);
@@ -51,13 +59,10 @@ pub fn print_before(title: &str, cases: &[Case], plan: &Plan, before: &str) -> i
 
 /// The first cells of a case's line.
 fn times(case: &Case, measured: &Measured) -> Vec<String> {
-    vec![
-        case.size.clone(),
-        case.call.to_owned(),
-        rounded(measured.other, 1),
-        rounded(measured.port, 1),
-        rounded(measured.ratio, 2),
-    ]
+    let mut cells = vec![case.size.clone(), case.call.to_owned()];
+    cells.extend(measured.times.iter().map(|&time| rounded(time, 1)));
+    cells.extend(measured.ratios.iter().map(|&ratio| rounded(ratio, 2)));
+    cells
 }
 
 fn line(case: &Case, plan: &Plan) -> String {

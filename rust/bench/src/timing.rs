@@ -1,4 +1,4 @@
-//! Time, taken of both sides in turn.
+//! Time, taken of the sides in turn.
 
 use std::time::{Duration, Instant};
 
@@ -12,70 +12,74 @@ use crate::sides::Sides;
 pub struct Plan {
     /// The time that the blocks of a case take together, unless they are the fewest.
     pub time: Duration,
-    /// The time that a block of the slower side has at most, unless one call takes more, and half of which it has at least.
+    /// The time that a block of the slowest side has at most, unless one call takes more, and half of which it has at least.
     pub block: Duration,
 }
 
 /// The fewest blocks of each side.
 const FEWEST: u64 = 15;
 
-/// The faster side's block has at least this part of a block's time.
+/// A faster side's block has at least this part of a block's time.
 const LEAST: u32 = 10;
 
 /// How often a time is taken to find out how many calls a block has, so that none counts in which other work had the processor.
 const TRIES: usize = 3;
 
-/// The medians of all blocks: of the nanoseconds that a call takes on each side, and of the ratio of neighbouring blocks.
+/// The medians of all blocks: of the nanoseconds that a call takes on each side, and of the ratio of the port's block, which is the last, to each
+/// neighbour.
 pub struct Measured {
-    pub other: f64,
-    pub port: f64,
-    pub ratio: f64,
+    pub times: Vec<f64>,
+    pub ratios: Vec<f64>,
 }
 
 /// What a block has: so many calls, and how many times over each side makes them.
 struct Block {
     calls: u32,
-    rounds: [u32; 2],
+    rounds: Vec<u32>,
 }
 
 impl Plan {
-    /// Measures both sides. In a block they have the same state and make the same calls, and the side that goes first takes turns.
+    /// Measures the sides. In a block they have the same state and make the same calls, and the side that goes first takes turns.
     pub fn measure(&self, sides: &mut Sides) -> Measured {
         let Block { calls, rounds } = self.block(sides);
-        let mut other = Vec::new();
-        let mut port = Vec::new();
+        let port = rounds.len() - 1;
+        let mut blocks: Vec<Vec<f64>> = Vec::new();
         let started = Instant::now();
         for block in (0..).take_while(|&block| block < FEWEST || started.elapsed() < self.time) {
-            let times = sides.times(some_state(block), calls, rounds, block as usize % 2);
-            let nanoseconds = |side: usize| {
-                times[side].as_nanos() as f64 / f64::from(calls) / f64::from(rounds[side])
-            };
-            other.push(nanoseconds(0));
-            port.push(nanoseconds(1));
+            let first = block as usize % rounds.len();
+            let times = sides.times(some_state(block), calls, &rounds, first);
+            let nanoseconds = times.iter().zip(&rounds).map(|(time, &rounds)| {
+                time.as_nanos() as f64 / f64::from(calls) / f64::from(rounds)
+            });
+            blocks.push(nanoseconds.collect());
         }
-        let ratios = port.iter().zip(&other).map(|(port, other)| port / other);
+        let time = |side: usize| median(blocks.iter().map(|block| block[side]).collect());
+        let ratio = |side: usize| {
+            let ratios = blocks.iter().map(|block| block[port] / block[side]);
+            median(ratios.collect())
+        };
         Measured {
-            ratio: median(ratios.collect()),
-            other: median(other),
-            port: median(port),
+            times: (0..=port).map(time).collect(),
+            ratios: (0..port).map(ratio).collect(),
         }
     }
 
-    /// Doubles the calls until the slower side takes half a block. A side that is far faster makes them many times over: a time of
-    /// few nanoseconds cannot be read, and most of it would be what the other side has pushed out of the caches.
+    /// Doubles the calls until the slowest side takes half a block. A side that is far faster makes them many times over: a time of
+    /// few nanoseconds cannot be read, and most of it would be what another side has pushed out of the caches.
     fn block(&self, sides: &mut Sides) -> Block {
+        let once = vec![1; sides.timed.len()];
         let mut calls = 1;
         loop {
-            let tries = [(); TRIES].map(|()| sides.times(some_state(0), calls, [1, 1], 0));
+            let tries = [(); TRIES].map(|()| sides.times(some_state(0), calls, &once, 0));
             let least = |side: usize| {
                 let times = tries.iter().map(|times| times[side]);
                 times.fold(Duration::MAX, Duration::min)
             };
-            let times = [least(0), least(1)];
-            let slower = times[0].max(times[1]);
-            if slower >= self.block / 2 {
+            let times: Vec<Duration> = (0..once.len()).map(least).collect();
+            if times.iter().any(|&time| time >= self.block / 2) {
                 let short = (self.block / LEAST).as_nanos();
-                let rounds = times.map(|time| short.div_ceil(time.as_nanos().max(1)) as u32);
+                let rounds = |time: &Duration| short.div_ceil(time.as_nanos().max(1)) as u32;
+                let rounds = times.iter().map(rounds).collect();
                 return Block { calls, rounds };
             }
             calls *= 2;

@@ -19,7 +19,7 @@ pub fn cases() -> Vec<Case> {
         ("`new`", "", new),
         ("`update_weights`", "one place, in the middle, of ", change),
         ("`weight`", "one place, in the middle, of ", lookup),
-        ("`sample` (pick)", "", pick),
+        ("`sample` (pick)", "", |count| pick(&weights(count))),
     ];
     let mut cases = Vec::new();
     for (call, of, sides) in works {
@@ -32,7 +32,7 @@ pub fn cases() -> Vec<Case> {
 }
 
 /// So many weights, from 1 to 10.
-fn weights(count: usize) -> Vec<u32> {
+pub fn weights(count: usize) -> Vec<u32> {
     (0..).map(|i: u32| 1 + i * 7 % 10).take(count).collect()
 }
 
@@ -40,10 +40,10 @@ fn rand_table(count: usize) -> RandTable<u32> {
     RandTable::new(weights(count)).expect(GOOD)
 }
 
-/// The port's table with its sums.
-fn port_table(count: usize) -> (PortTable, Vec<u32>) {
-    let mut sums = vec![0; count - 1];
-    let table = PortTable::new(&weights(count), &mut sums).expect(GOOD);
+/// The port's table of these weights with its sums.
+fn port_table(weights: &[u32]) -> (PortTable, Vec<u32>) {
+    let mut sums = vec![0; weights.len() - 1];
+    let table = PortTable::new(weights, &mut sums).expect(GOOD);
     (table, sums)
 }
 
@@ -72,7 +72,7 @@ fn new(count: usize) -> Sides {
 /// The weight in the middle becomes one of two in turn.
 fn change(count: usize) -> Sides {
     let other = |weight: u32| 12 - weight;
-    let (table, sums) = port_table(count);
+    let (table, sums) = port_table(&weights(count));
     Sides::new(
         theirs(
             (rand_table(count), count / 2, 5),
@@ -95,7 +95,7 @@ fn change(count: usize) -> Sides {
 }
 
 fn lookup(count: usize) -> Sides {
-    let (table, sums) = port_table(count);
+    let (table, sums) = port_table(&weights(count));
     Sides::new(
         theirs(
             (rand_table(count), count / 2),
@@ -110,11 +110,16 @@ fn lookup(count: usize) -> Sides {
     )
 }
 
-fn pick(count: usize) -> Sides {
+/// A pick by these weights.
+pub fn pick(weights: &[u32]) -> Sides {
     Sides::new(
-        theirs(rand_table(count), |rng, table| table.sample(rng), answer),
+        theirs(
+            RandTable::<u32>::new(weights).expect(GOOD),
+            |rng, table| table.sample(rng),
+            answer,
+        ),
         ours(
-            port_table(count),
+            port_table(weights),
             |rng, (table, sums)| table.sample(rng, sums, u64::MAX).expect(GOOD),
             |_, picked| picked.index as usize,
         ),

@@ -6,7 +6,9 @@ use rand::Rng;
 use rand::rngs::Xoshiro256PlusPlus;
 use reference::State;
 use reference::call::{Call, Name, Reading};
-use reference::draws::{Drawn, Draws, RAND, bounded, counted, rejecting};
+use reference::draws::{
+    Drawn, Draws, RAND, bounded, counted, one_too_low, rejecting, rejecting_at,
+};
 use reference::sample_line::sampled;
 use reference::sampling::Sampling;
 use reference::shuffle_line::{filled, partially_shuffled, wholly_shuffled};
@@ -29,6 +31,9 @@ const SECOND_WORD: &str = "second-word";
 /// The rejecting draw with a threshold that is one too high.
 const THRESHOLD: &str = "threshold";
 
+/// The same with one that is one too low.
+const THRESHOLD_LOW: &str = "threshold-low";
+
 /// A draw that read more than one word, with a figure of one word less.
 const FIGURE: &str = "words";
 
@@ -42,7 +47,7 @@ pub fn of(name: Name) -> Vec<&'static str> {
         Name::FromSeed => FromSeed::FAULTS.to_vec(),
         Name::NextU64 | Name::NextU32 => vec![OF_NEXT_STEP],
         Name::RandomRange | Name::RandomRangeWithin => vec![SECOND_WORD, FIGURE],
-        Name::UniformInt => vec![THRESHOLD, FIGURE],
+        Name::UniformInt => vec![THRESHOLD, THRESHOLD_LOW, FIGURE],
         Name::Sample => [Sample::FAULTS, &[FIGURE]].concat(),
         Name::PartialShuffle => [PartialShuffle::FAULTS, &[PARTS]].concat(),
         Name::Shuffle => Shuffle::FAULTS.to_vec(),
@@ -115,7 +120,11 @@ fn draws(fault: &str) -> Option<Draws> {
             ..RAND
         },
         THRESHOLD => Draws {
-            rejecting: threshold,
+            rejecting: |rng, r| rejecting_at(rng, r, WORDS % u64::from(r) + 1),
+            ..RAND
+        },
+        THRESHOLD_LOW => Draws {
+            rejecting: one_too_low,
             ..RAND
         },
         FIGURE => Draws {
@@ -136,19 +145,6 @@ fn second_word(rng: &mut Xoshiro256PlusPlus, r: u32) -> Drawn {
         }
         let second = u64::from(rng.next_u32()) * u64::from(r);
         high(product + second / WORDS)
-    })
-}
-
-/// Fault [`THRESHOLD`].
-fn threshold(rng: &mut Xoshiro256PlusPlus, r: u32) -> Drawn {
-    let threshold = WORDS % u64::from(r) + 1;
-    counted(rng, |rng| {
-        loop {
-            let product = u64::from(rng.next_u32()) * u64::from(r);
-            if product % WORDS >= threshold {
-                break high(product);
-            }
-        }
     })
 }
 
@@ -185,7 +181,7 @@ mod tests {
     use reference::call::{Call, Name, Reading};
     use reference::words::giving;
 
-    use super::{FIGURE, SECOND_WORD, THRESHOLD, answer, of};
+    use super::{FIGURE, SECOND_WORD, THRESHOLD, THRESHOLD_LOW, answer, of};
     use crate::inputs::Source;
     use crate::program::random;
 
@@ -218,26 +214,32 @@ mod tests {
         }
     }
 
-    /// Whether each fault of a draw shows in a draw below 6 from these words.
-    fn shows(reading: Reading, a: u32, b: u32) -> [bool; 3] {
+    /// Whether each fault of a draw shows in a draw from these words.
+    fn shows(reading: Reading, a: u32, b: u32) -> [bool; 4] {
         let call = Call::Read {
             reading,
             from: giving(a, b, 1),
             count: 1,
         };
-        [SECOND_WORD, THRESHOLD, FIGURE].map(|fault| answer(&call, fault) != call.answer())
+        let faults = [SECOND_WORD, THRESHOLD, THRESHOLD_LOW, FIGURE];
+        faults.map(|fault| answer(&call, fault) != call.answer())
     }
 
     #[test]
     fn each_fault_of_a_draw_shows_where_it_is() {
         let bounded = Reading::RandomRange { r: 6 };
-        let rejecting = Reading::UniformInt { r: 6, budget: 2 };
-        // The lower halves are 2^32 - 8, 2^32 - 6 and 2^32 - 4; then 6, 4 (2^32 mod 6) and 0.
-        assert_eq!(shows(bounded, 3579139412, 0), [false, false, false]);
-        assert_eq!(shows(bounded, u32::MAX, 0), [true, false, false]);
-        assert_eq!(shows(bounded, 715827882, 0), [false, false, true]);
-        assert_eq!(shows(rejecting, 1, 1), [false, false, false]);
-        assert_eq!(shows(rejecting, 1431655766, 1), [false, true, false]);
-        assert_eq!(shows(rejecting, 0, 1), [false, false, true]);
+        // The lower halves are 2^32 - 8, 2^32 - 6 and 2^32 - 4.
+        assert_eq!(shows(bounded, 3579139412, 0), [false; 4]);
+        assert_eq!(shows(bounded, u32::MAX, 0), [true, false, false, false]);
+        assert_eq!(shows(bounded, 715827882, 0), [false, false, false, true]);
+        let rejecting = |r| Reading::UniformInt { r, budget: 2 };
+        // 6, 4 (2^32 mod 6) and 0.
+        assert_eq!(shows(rejecting(6), 1, 1), [false; 4]);
+        let at = shows(rejecting(6), 1431655766, 1);
+        assert_eq!(at, [false, true, false, false]);
+        assert_eq!(shows(rejecting(6), 0, 1), [false, false, false, true]);
+        // 3 and 0, one below 2^32 mod 3.
+        assert_eq!(shows(rejecting(3), 1, 1), [false; 4]);
+        assert_eq!(shows(rejecting(3), 0, 1), [false, false, true, true]);
     }
 }

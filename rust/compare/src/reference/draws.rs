@@ -5,6 +5,7 @@ use rand::rngs::Xoshiro256PlusPlus;
 use rand::{Rng, RngExt};
 
 use crate::Counting;
+use crate::words::WORDS;
 
 /// The number of document 01's table for a draw that needs a word more than its budget (there: "spent").
 pub const BUDGET_EXHAUSTED: u64 = 13;
@@ -44,6 +45,23 @@ pub fn rejecting(rng: &mut Xoshiro256PlusPlus, r: u32) -> Drawn {
     counted(rng, |rng| range.sample(rng))
 }
 
+/// A rejecting draw at a threshold of any size, written anew from document 01. At 2^32 mod `r` it is rand's.
+pub fn rejecting_at(rng: &mut Xoshiro256PlusPlus, r: u32, threshold: u64) -> Drawn {
+    counted(rng, |rng| {
+        loop {
+            let product = u64::from(rng.next_u32()) * u64::from(r);
+            if product % WORDS >= threshold {
+                break (product / WORDS) as u32;
+            }
+        }
+    })
+}
+
+/// The same at a threshold that is one too low: a fault to be found. Below an even `r` no word tells it from the draw that is due.
+pub fn one_too_low(rng: &mut Xoshiro256PlusPlus, r: u32) -> Drawn {
+    rejecting_at(rng, r, (WORDS % u64::from(r)).saturating_sub(1))
+}
+
 /// Makes a draw and counts the words that it reads.
 pub fn counted(rng: &mut Xoshiro256PlusPlus, draw: impl FnOnce(&mut Counting) -> u32) -> Drawn {
     let mut counting = Counting::new(rng.clone());
@@ -79,8 +97,8 @@ pub fn within(
 mod tests {
     use rand::Rng;
 
-    use super::{bounded, rejecting, within};
-    use crate::words::giving;
+    use super::{bounded, rejecting, rejecting_at, within};
+    use crate::words::{self, WORDS, giving};
     use crate::{from_state, state};
 
     #[test]
@@ -93,6 +111,19 @@ mod tests {
         assert_eq!(within(&mut rng, 0, |rng| bounded(rng, 6)), [13, 0, 0]);
         assert_eq!(rng, start);
         assert_eq!(within(&mut rng, 2, |rng| bounded(rng, 6)), [0, 1, 2]);
+    }
+
+    #[test]
+    fn at_the_threshold_of_its_range_a_draw_is_rands() {
+        for r in [1, 2, 3, 6, 1000, 44_011, (1 << 31) + 1, u32::MAX] {
+            for (a, b) in words::rejecting(r) {
+                let start = from_state(giving(a, b, 1));
+                let [mut rng, mut same] = [start.clone(), start];
+                let drawn = rejecting_at(&mut rng, r, WORDS % u64::from(r));
+                assert_eq!(drawn, rejecting(&mut same, r), "{r}: {a}, {b}");
+                assert_eq!(rng, same);
+            }
+        }
     }
 
     #[test]

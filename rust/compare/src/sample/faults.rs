@@ -1,24 +1,25 @@
 //! Faults that can be put into the port's samples, so that a comparison is seen to fail.
 
 use rand::rngs::Xoshiro256PlusPlus;
-use reference::draws::{bounded, rejecting};
-use reference::methods::{Method, Sample, by_rand, due};
+use reference::draws::{Draws, RAND, bounded, one_too_low, rejecting};
+use reference::methods::{Method, Sample, by_rand, draw, due};
 use reference::sampling::{Ended, Sampling};
 
 use super::End;
 
 /// The names of the faults.
-pub const NAMES: [&str; 6] = [
+pub const NAMES: [&str; 7] = [
     "floyd-appends-j",
     "in-place-bound",
     "rejection-duplicate",
     "sample-words",
     "spent-early",
     "refusal-order",
+    "rejection-threshold",
 ];
 
 /// The faults by name.
-pub const FAULTS: [(&str, End); 6] = [
+pub const FAULTS: [(&str, End); 7] = [
     (NAMES[0], |call, indices, scratch| {
         with(call, Method::Floyd, floyd_appends_j, indices, scratch)
     }),
@@ -37,6 +38,15 @@ pub const FAULTS: [(&str, End); 6] = [
     (NAMES[3], sample_words),
     (NAMES[4], spent_early),
     (NAMES[5], refusal_order),
+    (NAMES[6], |call, indices, scratch| {
+        with(
+            call,
+            Method::Rejection,
+            rejection_threshold,
+            indices,
+            scratch,
+        )
+    }),
 ];
 
 /// A call with one of the methods replaced.
@@ -89,6 +99,15 @@ fn rejection_duplicate(rng: &mut Xoshiro256PlusPlus, length: u32, amount: u32) -
         sample.indices.push(drawn.value);
     }
     sample
+}
+
+/// The method by rejection with a threshold that is one too low.
+fn rejection_threshold(rng: &mut Xoshiro256PlusPlus, length: u32, amount: u32) -> Sample {
+    let draws = Draws {
+        rejecting: one_too_low,
+        ..RAND
+    };
+    draw(Method::Rejection, rng, length, amount, &draws)
 }
 
 /// A sample that read more words than it has indices, with a figure of one word less.

@@ -2,6 +2,7 @@
 
 use reference::methods::{by_rand, scratch};
 use reference::sampling::Sampling;
+use reference::words::{giving, rejecting};
 use reference::{State, from_state, some_state};
 
 /// Every amount is tried at every length to this one, from so many generators.
@@ -51,6 +52,14 @@ const UNDER_BUDGETS: [(u64, u64); 4] = [
     (4_294_967_295, 164),
     ((1 << 31) + 1, 163),
     (500_000, 2000),
+];
+
+/// Samples by rejection whose first two words are on one side or the other of the draw's test: few words dropped, or half of them.
+const AT_TESTS: [(u32, u64); 4] = [
+    (44_010, 163),
+    (44_011, 163),
+    ((1 << 31) + 1, 163),
+    (u32::MAX, 163),
 ];
 
 /// No slice of a refused call is longer.
@@ -110,6 +119,9 @@ pub fn calls(mut visit: impl FnMut(Sampling)) {
     for (number, (length, amount)) in (0..).zip(UNDER_BUDGETS) {
         budgets(&exact(some_state(number), length, amount), &mut visit);
     }
+    for (length, amount) in AT_TESTS {
+        at_tests(length, amount, &mut visit);
+    }
     for (length, amount) in [(20, 11), (40, 12), (44_010, 163)] {
         refusals(&exact(some_state(length), length, amount), &mut visit);
     }
@@ -160,6 +172,19 @@ pub fn budgets(call: &Sampling, visit: &mut impl FnMut(Sampling)) {
             budget,
             ..longer(call, 2)
         });
+    }
+}
+
+/// A sample from each such generator, with few words and with enough.
+fn at_tests(length: u32, amount: u64, visit: &mut impl FnMut(Sampling)) {
+    for (salt, (a, b)) in (1..).zip(rejecting(length)) {
+        let call = exact(giving(a, b, salt), length.into(), amount);
+        for budget in [0, 1, 2, 3, u64::MAX] {
+            visit(Sampling {
+                budget,
+                ..call.clone()
+            });
+        }
     }
 }
 

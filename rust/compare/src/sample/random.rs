@@ -1,6 +1,9 @@
 //! Random samples.
 
+use reference::State;
+use reference::methods::{Method, due};
 use reference::sampling::Sampling;
+use reference::words::{giving, rejecting};
 
 use super::fixed::scratch_needed;
 use crate::inputs::Source;
@@ -15,12 +18,23 @@ pub fn call(source: &mut Source) -> Sampling {
     let indices_len = around(source, amount.min(LONGEST));
     let scratch_len = around(source, needed);
     Sampling {
-        from: source.state_or_zero(),
+        from: start(length, amount, source),
         length,
         amount,
         budget: budget(source, amount),
         indices_len,
         scratch_len,
+    }
+}
+
+/// A generator; where the sample is one by rejection, half the time one whose first two words are on one side or the other of the draw's test.
+fn start(length: u64, amount: u64, source: &mut Source) -> State {
+    match (u32::try_from(length), u32::try_from(amount)) {
+        (Ok(r), Ok(amount)) if due(r, amount) == Method::Rejection && source.below(2) == 0 => {
+            let (a, b) = source.one_of(&rejecting(r));
+            giving(a, b, source.even() | 1)
+        }
+        _ => source.state_or_zero(),
     }
 }
 

@@ -1,11 +1,11 @@
 //! Faults that can be put into the port's calls on a table, so that a comparison is seen to fail.
 
 use reference::State;
-use reference::draws::rejecting;
-use reference::from_state;
+use reference::draws::{BUDGET_EXHAUSTED, one_too_low, rejecting, within};
 use reference::plain_list::{PLACE_OUT_OF_RANGE, PLACES_NOT_INCREASING, Record};
 use reference::sampling::Ended;
 use reference::weighing::{Changed, Looked, Made};
+use reference::{from_state, state};
 
 use super::{Calls, PORT, port};
 
@@ -27,6 +27,9 @@ pub const REFUSAL_WRITES: &str = "refusal-writes";
 /// A pick that dropped a word, with a figure of one word less.
 pub const PICK_WORDS: &str = "pick-words";
 
+/// A pick whose draw has a threshold that is one too low.
+pub const PICK_THRESHOLD: &str = "pick-threshold";
+
 /// A place out of range at any item, told before one out of order.
 pub const PLACES_ORDER: &str = "places-order";
 
@@ -43,6 +46,7 @@ pub fn planted(plant: Option<&str>) -> Calls {
         Some(EQUAL_SUM) => calls.pick = equal_sum,
         Some(ENTRY_PAST) => calls.pick = entry_past,
         Some(PICK_WORDS) => calls.pick = pick_words,
+        Some(PICK_THRESHOLD) => calls.pick = pick_threshold,
         Some(LAST_SUM) => calls.new = last_sum,
         Some(OLD_WEIGHT) => calls.update_weights = old_weight,
         Some(REFUSAL_WRITES) => calls.update_weights = refusal_writes,
@@ -81,6 +85,25 @@ fn pick_words(from: State, table: Record, lent: &[u32], budget: u64) -> Ended {
     let mut ended = port::pick(from, table, lent, budget);
     ended.words -= u64::from(ended.number == 0 && ended.words > 1);
     ended
+}
+
+/// Fault [`PICK_THRESHOLD`].
+fn pick_threshold(from: State, table: Record, lent: &[u32], budget: u64) -> Ended {
+    let ended = port::pick(from, table, lent, budget);
+    if ![0, BUDGET_EXHAUSTED].contains(&ended.number) {
+        return ended;
+    }
+    let mut rng = from_state(from);
+    let draw = |rng: &mut _| one_too_low(rng, table.total_weight);
+    let [number, c, words] = within(&mut rng, budget, draw);
+    let sums = &lent[..table.count as usize - 1];
+    let index = sums.partition_point(|&sum| u64::from(sum) <= c) as u64;
+    Ended {
+        number,
+        count: if number == 0 { index } else { 0 },
+        words,
+        state: state(&rng),
+    }
 }
 
 /// Fault [`LAST_SUM`].

@@ -33,8 +33,12 @@ const GENERATORS_WHERE_DROPPED: u64 = 500;
 
 impl Kind for Pick {
     const NAME: &'static str = "WeightedIndex::sample";
-    const FAULTS: &'static [&'static str] =
-        &[faults::EQUAL_SUM, faults::ENTRY_PAST, faults::PICK_WORDS];
+    const FAULTS: &'static [&'static str] = &[
+        faults::EQUAL_SUM,
+        faults::ENTRY_PAST,
+        faults::PICK_WORDS,
+        faults::PICK_THRESHOLD,
+    ];
     const PARTS: usize = 2;
     type Input = Input;
     type Answer = Answer<Ended>;
