@@ -9,14 +9,12 @@ use rand::distr::Distribution;
 use rand::distr::uniform::{Error, SampleBorrow, SampleUniform, UniformSampler};
 use rand::distr::weighted::{Weight, WeightedIndex};
 use rand::rngs::Xoshiro256PlusPlus as Rand;
+use reference::words::HALF_DROPPED;
 
 use crate::numbers::grouped;
 use crate::samples;
 use crate::sides::{Case, Timed, answer, theirs};
 use crate::weights::{pick, weights};
-
-/// Below this number half of all words are dropped, which is as many as can be.
-const HALF_DROPPED: u32 = (1 << 31) + 1;
 
 /// What stands beside the port: rand, and the copies.
 const OTHERS: &[&str] = &["rand", "dividing by draw", "dividing by word"];
@@ -187,9 +185,10 @@ mod tests {
     use rand::distr::Distribution;
     use rand::distr::weighted::WeightedIndex;
     use rand::seq::index;
+    use reference::words::HALF_DROPPED;
     use reference::{from_state, some_state};
 
-    use super::{DRAW, HALF_DROPPED, WORD, half_dropped, sample, table};
+    use super::{DRAW, WORD, half_dropped, sample, table};
 
     #[test]
     fn the_copies_draw_what_rand_draws() {

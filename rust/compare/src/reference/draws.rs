@@ -98,7 +98,7 @@ mod tests {
     use rand::Rng;
 
     use super::{bounded, rejecting, rejecting_at, within};
-    use crate::words::{self, WORDS, giving};
+    use crate::words::{self, HALF_DROPPED, WORDS, giving};
     use crate::{from_state, state};
 
     #[test]
@@ -115,7 +115,7 @@ mod tests {
 
     #[test]
     fn at_the_threshold_of_its_range_a_draw_is_rands() {
-        for r in [1, 2, 3, 6, 1000, 44_011, (1 << 31) + 1, u32::MAX] {
+        for r in [1, 2, 3, 6, 1000, 44_011, HALF_DROPPED, u32::MAX] {
             for (a, b) in words::rejecting(r) {
                 let start = from_state(giving(a, b, 1));
                 let [mut rng, mut same] = [start.clone(), start];

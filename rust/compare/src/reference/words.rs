@@ -10,6 +10,9 @@ use crate::{State, from_state};
 /// The number of words.
 pub const WORDS: u64 = 1 << 32;
 
+/// Below this number half of all words are dropped, which is as many as can be.
+pub const HALF_DROPPED: u32 = (1 << 31) + 1;
+
 /// A generator whose first two words are `a` and `b`. What is left free is filled from `salt`.
 ///
 /// Two outputs do not settle four words of state, so the state after the first step is taken to have 0 for its first word;

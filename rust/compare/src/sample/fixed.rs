@@ -2,7 +2,7 @@
 
 use reference::methods::{by_rand, scratch};
 use reference::sampling::Sampling;
-use reference::words::{giving, rejecting};
+use reference::words::{HALF_DROPPED, giving, rejecting};
 use reference::{State, from_state, some_state};
 
 /// Every amount is tried at every length to this one, from so many generators.
@@ -50,7 +50,7 @@ const ROUNDED_AMOUNT: u64 = 457_564;
 const UNDER_BUDGETS: [(u64, u64); 4] = [
     (44_010, 163),
     (4_294_967_295, 164),
-    ((1 << 31) + 1, 163),
+    (HALF_DROPPED as u64, 163),
     (500_000, 2000),
 ];
 
@@ -58,7 +58,7 @@ const UNDER_BUDGETS: [(u64, u64); 4] = [
 const AT_TESTS: [(u32, u64); 4] = [
     (44_010, 163),
     (44_011, 163),
-    ((1 << 31) + 1, 163),
+    (HALF_DROPPED, 163),
     (u32::MAX, 163),
 ];
 

@@ -2,11 +2,11 @@
 
 use reference::sampling::Ended;
 use reference::weighing::Held;
-use reference::words::{giving, rejecting};
+use reference::words::{HALF_DROPPED, giving, rejecting};
 use reference::{State, hash, some_state};
 
 use super::faults;
-use super::tables::{self, HALF_DROPPED};
+use super::tables;
 use super::{Answer, Calls, RAND, Table, random, smaller};
 use crate::inputs::{Source, edges, smaller as smaller_numbers, smaller_states};
 use crate::kind::Kind;

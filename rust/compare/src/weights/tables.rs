@@ -1,6 +1,7 @@
 //! Tables to lend: whole ones, and ones that are those of no weights.
 
 use reference::plain_list::{PlainList, Record};
+use reference::words::HALF_DROPPED;
 
 /// A record, and the slice that is lent with it. They may fit or not.
 #[derive(Clone, Debug, PartialEq, Eq)]
@@ -35,9 +36,6 @@ impl Table {
         self
     }
 }
-
-/// A total at which half of all words are dropped.
-pub const HALF_DROPPED: u32 = (1 << 31) + 1;
 
 /// Lists of weights: one, equal ones, zeros everywhere, sums that are equal, and totals at the edges.
 pub const WEIGHTS: [&[u32]; 24] = [
