@@ -11,17 +11,17 @@ use lib.ListN.{length, getD}
 use borrow.Author.Tests.{lt-ltb, le-ltb, eq-eqb, ne-eqb, eqb-true, eqb-false}
 use Rattle.refusal.specs.Answer.{Answer, done, declined, decided}
 use Rattle.refusal.specs.declared.Refusal.{Refusal}
-use Rattle.refusal.specs.declared.Refusal.the-variants.{InvalidTable, SliceTooShort, TooLong}
-use Rattle.weighted_index.specs.Weights.{mostWeights, total}
+use Rattle.refusal.specs.declared.Refusal.the-variants.{Overflow, InsufficientNonZero, InvalidTable, SliceTooShort, TooLong}
+use Rattle.weighted_index.specs.Weights.{mostWeights, mostTotal, total}
 use Rattle.weighted_index.specs.Tables.{heldSums, brokenTable, heldWeights}
 use Rattle.weighted_index.specs.Answers.{accepted, refuses}
 use Rattle.weighted_index.specs.New.{makes}
-use Rattle.update_weights.specs.Change.{replaced, itemsRefusal, listsRefusal, settled, updateOf, answerOfChecked, checkOf}
+use Rattle.update_weights.specs.Change.{replaced, placesRefusal, weightsRefusal, orElse, itemsRefusal, listsRefusal, settled, updateOf, answerOfChecked, checkOf}
 use Rattle.weighted_index.specs.declared.answer.WeightedIndex.{WeightedIndex}
 use Rattle.update_weights.specs.declared.Checked.{Checked}
 use Rattle.update_weights.specs.declared.Checked.the-variants.{Total, Refused}
 use Rattle.weighted_index.proofs.Whole.{whole, held-length}
-use Rattle.update_weights.proofs.Items.{refused-none, replaced-length}
+use Rattle.update_weights.proofs.Items.{refused-none, replaced-length, weights-overflow, weights-zero, weights-accepted, items-placed}
 
 -- ---- the two lists
 
@@ -30,32 +30,32 @@ module _ (ws ps vs : List ℕ) where
   unfolding listsRefusal
   lists-differ ne = rw (ne-eqb (length ps) (length vs) ne)
 
-  pub lists-agree : length ps ≡ length vs → listsRefusal ws ps vs ≡ itemsRefusal ws 0 ps vs
+  pub lists-agree : length ps ≡ length vs → listsRefusal ws ps vs ≡ itemsRefusal ws ps vs
   unfolding listsRefusal
   lists-agree e = rw (eq-eqb (length ps) (length vs) e)
 
-  pub lists-passed : listsRefusal ws ps vs ≡ none → (length ps ≡ length vs) × (itemsRefusal ws 0 ps vs ≡ none)
+  pub lists-passed : listsRefusal ws ps vs ≡ none → itemsRefusal ws ps vs ≡ none
   lists-passed e = go (eqb (length ps) (length vs)) refl
     where
-      go : (b : Bool) → eqb (length ps) (length vs) ≡ b → (length ps ≡ length vs) × (itemsRefusal ws 0 ps vs ≡ none)
-      go true q = let h = eqb-true (length ps) (length vs) q in (h, sym (lists-agree h) ∙ e)
+      go : (b : Bool) → eqb (length ps) (length vs) ≡ b → itemsRefusal ws ps vs ≡ none
+      go true q = sym (lists-agree (eqb-true (length ps) (length vs) q)) ∙ e
       go false q = absurd (refused-none (sym (lists-differ (eqb-false (length ps) (length vs) q)) ∙ e))
 
 -- ---- what the items' checks answer
 
-refused-end : (o : Option Refusal) (n : ℕ) (why : Refusal) (ws l : List ℕ) → declined why ≡ decided o (n ∷ []) → settled o ws l ≡ refuses why l
+refused-end : (o later : Option Refusal) (n : ℕ) (why : Refusal) (ws l : List ℕ) → declined why ≡ decided o (n ∷ []) → settled (orElse o later) ws l ≡ refuses why l
 unfolding refuses
-refused-end none n why ws l e = let z : _≡_ {A = ℕ} 0 1 = ap (λ (a : Answer). length (a .values)) e in absurd (omega arith)
-refused-end (some y) n why ws l e = ap (λ (a : Answer). record { answer = a; words = 0; sums = l }) (sym e)
+refused-end none later n why ws l e = let z : _≡_ {A = ℕ} 0 1 = ap (λ (a : Answer). length (a .values)) e in absurd (omega arith)
+refused-end (some y) later n why ws l e = ap (λ (a : Answer). record { answer = a; words = 0; sums = l }) (sym e)
 
-accepted-end : (o : Option Refusal) (n m : ℕ) → done (m ∷ []) ≡ decided o (n ∷ []) → (o ≡ none) × (n ≡ m)
-accepted-end none n m e = (refl, sym (ap (λ (a : Answer). getD (a .values) 0 0) e))
-accepted-end (some y) n m e = let z : _≡_ {A = ℕ} 1 0 = ap (λ (a : Answer). length (a .values)) e in absurd (omega arith)
+placed-end : (o : Option Refusal) (n m : ℕ) → done (m ∷ []) ≡ decided o (n ∷ []) → (o ≡ none) × (n ≡ m)
+placed-end none n m e = (refl, sym (ap (λ (a : Answer). getD (a .values) 0 0) e))
+placed-end (some y) n m e = let z : _≡_ {A = ℕ} 1 0 = ap (λ (a : Answer). length (a .values)) e in absurd (omega arith)
 
-pub items-accepted : (ws ps vs : List ℕ) (r : Checked) (m : ℕ) → answerOfChecked r ≡ checkOf ws ps vs → r ≡ Total m
-    → (itemsRefusal ws 0 ps vs ≡ none) × (total (replaced ws ps vs) ≡ m)
+pub items-placed-at : (ws ps vs : List ℕ) (r : Checked) (m : ℕ) → answerOfChecked r ≡ checkOf ws ps vs → r ≡ Total m
+    → (placesRefusal (length ws) 0 ps ≡ none) × (total (replaced ws ps vs) ≡ m)
 unfolding checkOf
-items-accepted ws ps vs r m e q = accepted-end (itemsRefusal ws 0 ps vs) (total (replaced ws ps vs)) m (sym (ap answerOfChecked q) ∙ e)
+items-placed-at ws ps vs r m e q = placed-end (placesRefusal (length ws) 0 ps) (total (replaced ws ps vs)) m (sym (ap answerOfChecked q) ∙ e)
 
 -- ---- the call
 
@@ -78,7 +78,10 @@ module _ (t : WeightedIndex) (s ps vs : List ℕ) where
         abbrev held : List ℕ
         held = heldWeights t s
 
-        pub goes : updateOf t s ps vs ≡ settled (listsRefusal held ps vs) (replaced held ps vs) s
+        abbrev new : List ℕ
+        new = replaced held ps vs
+
+        pub goes : updateOf t s ps vs ≡ settled (listsRefusal held ps vs) new s
         unfolding updateOf
         goes = rw (le-ltb mostWeights (t .count) h, le-ltb mostWeights (length vs) k, w)
 
@@ -87,20 +90,27 @@ module _ (t : WeightedIndex) (s ps vs : List ℕ) where
 
         module _ (e : length ps ≡ length vs) where
           pub item-refused : (r : Checked) (why : Refusal) → answerOfChecked r ≡ checkOf held ps vs → r ≡ Refused why → updateOf t s ps vs ≡ refuses why s
-          unfolding checkOf
+          unfolding checkOf itemsRefusal
           item-refused r why f q =
               goes
               ∙ rw (lists-agree held ps vs e)
-              (refused-end (itemsRefusal held 0 ps vs) (total (replaced held ps vs)) why (replaced held ps vs) s (sym (ap answerOfChecked q) ∙ f))
+              (refused-end (placesRefusal (length held) 0 ps) (weightsRefusal new) (total new) why new s (sym (ap answerOfChecked q) ∙ f))
 
-          pub all-accepted : itemsRefusal held 0 ps vs ≡ none → updateOf t s ps vs ≡ makes (replaced held ps vs) s
-          all-accepted q = goes ∙ rw (lists-agree held ps vs e ∙ q)
+          -- no place is refused, and the changed weights add up to m
+          module _ (m : ℕ) (d : placesRefusal (length held) 0 ps ≡ none) (n : total new ≡ m) where
+            weighs : updateOf t s ps vs ≡ settled (weightsRefusal new) new s
+            weighs = goes ∙ rw (lists-agree held ps vs e ∙ items-placed held ps vs d)
 
-          size : length (replaced held ps vs) ≡ t .count
-          size = replaced-length held ps vs ∙ held-length t s (whole t s w)
+            pub overflowing : mostTotal < m → updateOf t s ps vs ≡ refuses Overflow s
+            overflowing o = weighs ∙ rw (weights-overflow new (omega (arith, n)))
 
-          -- as the code leaves it: the new total m, and s′ with the new sums
-          pub changed : (m : ℕ) (s′ : List ℕ) → itemsRefusal held 0 ps vs ≡ none → total (replaced held ps vs) ≡ m → s′ ≡ heldSums (replaced held ps vs) s
-              → updateOf t s ps vs ≡ accepted (record { count = t .count; «total_weight» = m }) s′
-          unfolding makes accepted
-          changed m s′ q n f = all-accepted q ∙ rw (size, n, f)
+            pub all-zero : m ≡ 0 → updateOf t s ps vs ≡ refuses InsufficientNonZero s
+            all-zero z = weighs ∙ rw (weights-zero new (n ∙ z))
+
+            size : length new ≡ t .count
+            size = replaced-length held ps vs ∙ held-length t s (whole t s w)
+
+            -- as the code leaves it: s′ has the new sums
+            pub changed : (s′ : List ℕ) → 0 < m → m ≤ mostTotal → s′ ≡ heldSums new s → updateOf t s ps vs ≡ accepted (record { count = t .count; «total_weight» = m }) s′
+            unfolding makes accepted
+            changed s′ z o f = weighs ∙ rw (weights-accepted new (omega (arith, n)) (omega (arith, n)), size, n, f)

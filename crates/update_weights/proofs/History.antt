@@ -23,7 +23,7 @@ use Rattle.weighted_index.specs.WholeTables.{TableOf}
 use Rattle.update_weights.specs.History.{Change, plainRefusal, plainAnswer, plainAfter, plainAnswers, plainWeights, Run, lastRecord, callsRun, plainRun, History, HistoryClaim}
 use Rattle.weighted_index.specs.declared.answer.WeightedIndex.{WeightedIndex}
 use Rattle.weighted_index.proofs.Totals.{sums-length, small-total, some-total}
-use Rattle.update_weights.proofs.Items.{refused-none, small, heavy, replaced-length}
+use Rattle.update_weights.proofs.Items.{refused-none, replaced-length, items-weighed}
 use Rattle.update_weights.proofs.ChangeCases.{lists-passed}
 use Rattle.weighted_index.proofs.WholeTables.{only, whole, read-back}
 
@@ -81,7 +81,7 @@ module _ (ws l : List ℕ) (f : Fine ws l) where
         rw (table-whole, table-holds, table-count)
         (settled-either (tooLong (length ws) (c .weights)) TooLong (listsRefusal ws (c .places) (c .weights)) new (heldSums ws l))
 
-    passed : plainRefusal ws c ≡ none → (length (c .places) ≡ length (c .weights)) × (itemsRefusal ws 0 (c .places) (c .weights) ≡ none)
+    passed : plainRefusal ws c ≡ none → itemsRefusal ws (c .places) (c .weights) ≡ none
     unfolding plainRefusal
     passed e = lists-passed ws (c .places) (c .weights) (go (tooLong (length ws) (c .weights)) e)
       where
@@ -94,13 +94,8 @@ module _ (ws l : List ℕ) (f : Fine ws l) where
 
     fine-new : plainRefusal ws c ≡ none → Fine new l
     fine-new e =
-        let p = passed e in
-        record {
-          few = omega (arith, size, f .few);
-          room = omega (arith, size, f .room);
-          weighs = heavy ws 0 (c .places) (c .weights) (p .0) (p .1);
-          small = small ws 0 (c .places) (c .weights) (f .small) (p .1);
-        }
+        let w = items-weighed ws (c .places) (c .weights) (passed e) in
+        record { few = omega (arith, size, f .few); room = omega (arith, size, f .room); weighs = w .0; small = w .1 }
 
     made : plainRefusal ws c ≡ none → call ≡ record { answer = done (length new ∷ total new ∷ []); words = 0; sums = heldSums new l }
     unfolding makes

@@ -11,120 +11,120 @@ use lib.ListN.{length, getD, set, length-set}
 use borrow.Author.Tests.{lt-ltb, le-ltb, le-leb, lt-leb, ltb-true, ltb-false, leb-true, leb-false}
 use Rattle.refusal.specs.declared.Refusal.{Refusal}
 use Rattle.refusal.specs.declared.Refusal.the-variants.{Overflow, InsufficientNonZero, PlacesNotIncreasing, PlaceOutOfRange}
-use Rattle.weighted_index.specs.Weights.{mostTotal, total}
-use Rattle.update_weights.specs.Change.{replaced, itemsRefusal}
-use Rattle.weighted_index.proofs.Totals.{too-much, not-too-much, all-zero, not-all-zero}
+use Rattle.weighted_index.specs.Weights.{mostTotal, total, overflows, allZero}
+use Rattle.update_weights.specs.Change.{replaced, placesRefusal, weightsRefusal, itemsRefusal}
+use Rattle.weighted_index.proofs.Totals.{too-much, not-too-much, all-zero, not-all-zero, small-total, some-total}
 
 pub refused-none : {why : Refusal} → _≡_ {A = Option Refusal} (some why) none → ⊥
 refused-none e = let z : _≡_ {A = ℕ} 0 1 = cc in omega arith
 
--- ---- one item
+-- ---- one place
 
-module _ (ws : List ℕ) (least p v : ℕ) (ps vs : List ℕ) where
-  pub item-order : p < least → itemsRefusal ws least (p ∷ ps) (v ∷ vs) ≡ some PlacesNotIncreasing
-  unfolding itemsRefusal
-  item-order h = rw (lt-ltb p least h)
+module _ (count least p : ℕ) (ps : List ℕ) where
+  pub place-order : p < least → placesRefusal count least (p ∷ ps) ≡ some PlacesNotIncreasing
+  unfolding placesRefusal
+  place-order h = rw (lt-ltb p least h)
 
-  pub item-range : least ≤ p → length ws ≤ p → itemsRefusal ws least (p ∷ ps) (v ∷ vs) ≡ some PlaceOutOfRange
-  unfolding itemsRefusal
-  item-range h k = rw (le-ltb p least h, le-leb (length ws) p k)
+  pub place-range : least ≤ p → count ≤ p → placesRefusal count least (p ∷ ps) ≡ some PlaceOutOfRange
+  unfolding placesRefusal
+  place-range h k = rw (le-ltb p least h, le-leb count p k)
 
-  pub item-overflow : least ≤ p → p < length ws → mostTotal < total (set ws p v) → itemsRefusal ws least (p ∷ ps) (v ∷ vs) ≡ some Overflow
-  unfolding itemsRefusal
-  item-overflow h k o = rw (le-ltb p least h, lt-leb (length ws) p k, too-much (set ws p v) o)
+  pub place-goes : least ≤ p → p < count → placesRefusal count least (p ∷ ps) ≡ placesRefusal count (suc p) ps
+  unfolding placesRefusal
+  place-goes h k = rw (le-ltb p least h, lt-leb count p k)
 
-  pub item-goes : least ≤ p → p < length ws → total (set ws p v) ≤ mostTotal
-      → itemsRefusal ws least (p ∷ ps) (v ∷ vs) ≡ itemsRefusal (set ws p v) (suc p) ps vs
-  unfolding itemsRefusal
-  item-goes h k o = rw (le-ltb p least h, lt-leb (length ws) p k, not-too-much (set ws p v) o)
-
-  pub item-replaced : replaced ws (p ∷ ps) (v ∷ vs) ≡ replaced (set ws p v) ps vs
-  unfolding replaced
-  item-replaced = refl
-
-  -- an item that is not refused
+  -- a place that is not refused
   pub record Passed : Type 0 where
     pub after : least ≤ p
-    pub inside : p < length ws
-    pub small : total (set ws p v) ≤ mostTotal
-    pub others : itemsRefusal (set ws p v) (suc p) ps vs ≡ none
+    pub inside : p < count
+    pub others : placesRefusal count (suc p) ps ≡ none
 
-  pub passed : itemsRefusal ws least (p ∷ ps) (v ∷ vs) ≡ none → Passed
+  pub passed : placesRefusal count least (p ∷ ps) ≡ none → Passed
   passed e = first (ltb p least) refl
     where
-      third : least ≤ p → p < length ws → (b : Bool) → ltb mostTotal (total (set ws p v)) ≡ b → Passed
-      third h k true q = absurd (refused-none (sym (item-overflow h k (ltb-true mostTotal (total (set ws p v)) q)) ∙ e))
-      third h k false q =
-          let o = ltb-false mostTotal (total (set ws p v)) q in
-          record { after = h; inside = k; small = o; others = sym (item-goes h k o) ∙ e }
-
-      second : least ≤ p → (b : Bool) → leb (length ws) p ≡ b → Passed
-      second h true q = absurd (refused-none (sym (item-range h (leb-true (length ws) p q)) ∙ e))
-      second h false q = third h (leb-false (length ws) p q) (ltb mostTotal (total (set ws p v))) refl
+      second : least ≤ p → (b : Bool) → leb count p ≡ b → Passed
+      second h true q = absurd (refused-none (sym (place-range h (leb-true count p q)) ∙ e))
+      second h false q = let k = leb-false count p q in record { after = h; inside = k; others = sym (place-goes h k) ∙ e }
 
       first : (b : Bool) → ltb p least ≡ b → Passed
-      first true q = absurd (refused-none (sym (item-order (ltb-true p least q)) ∙ e))
-      first false q = second (ltb-false p least q) (leb (length ws) p) refl
+      first true q = absurd (refused-none (sym (place-order (ltb-true p least q)) ∙ e))
+      first false q = second (ltb-false p least q) (leb count p) refl
 
--- ---- the end of the items
+pub no-places : (count least : ℕ) → placesRefusal count least [] ≡ none
+unfolding placesRefusal
+no-places count least = refl
 
-module _ (ws : List ℕ) (least : ℕ) (vs : List ℕ) where
-  pub end-zero : total ws ≡ 0 → itemsRefusal ws least [] vs ≡ some InsufficientNonZero
-  unfolding itemsRefusal
-  end-zero h = rw (all-zero ws h)
-
-  pub end-accepted : 0 < total ws → itemsRefusal ws least [] vs ≡ none
-  unfolding itemsRefusal
-  end-accepted h = rw (not-all-zero ws h)
-
-  pub end-replaced : replaced ws [] vs ≡ ws
-  unfolding replaced
-  end-replaced = refl
-
-  end-weighs : itemsRefusal ws least [] vs ≡ none → 0 < total ws
-  end-weighs e = go (ltb 0 (total ws)) refl
-    where
-      go : (b : Bool) → ltb 0 (total ws) ≡ b → 0 < total ws
-      go true q = ltb-true 0 (total ws) q
-      go false q = absurd (refused-none (sym (end-zero (let n = ltb-false 0 (total ws) q in omega arith)) ∙ e))
-
--- ---- items that are not refused
+-- ---- places that are not refused
 
 -- places go up, from least on
 abbrev pub Ordered : ℕ → List ℕ → Type 0
 Ordered least [] = Unit {0}
 Ordered least (p ∷ ps) = (least ≤ p) × Ordered (suc p) ps
 
-pub ordered : (ws : List ℕ) (least : ℕ) (ps vs : List ℕ) → length ps ≡ length vs → itemsRefusal ws least ps vs ≡ none → Ordered least ps
-ordered ws least [] vs h e = tt
-ordered ws least (p ∷ ps) [] h e = absurd (omega arith)
-ordered ws least (p ∷ ps) (v ∷ vs) h e =
-    let d = passed ws least p v ps vs e in (d .after, ordered (set ws p v) (suc p) ps vs (omega arith) (d .others))
+pub ordered : (count least : ℕ) (ps : List ℕ) → placesRefusal count least ps ≡ none → Ordered least ps
+ordered count least [] e = tt
+ordered count least (p ∷ ps) e = let d = passed count least p ps e in (d .after, ordered count (suc p) ps (d .others))
 
-pub first-inside : (ws : List ℕ) (least : ℕ) (ps vs : List ℕ) → length ps ≡ length vs → itemsRefusal ws least ps vs ≡ none → 0 < length ps
-    → getD ps 0 0 < length ws
-first-inside ws least [] vs h e l = absurd (omega arith)
-first-inside ws least (p ∷ ps) [] h e l = absurd (omega arith)
-first-inside ws least (p ∷ ps) (v ∷ vs) h e l = passed ws least p v ps vs e .inside
+pub first-inside : (count least : ℕ) (ps : List ℕ) → placesRefusal count least ps ≡ none → 0 < length ps → getD ps 0 0 < count
+first-inside count least [] e l = absurd (omega arith)
+first-inside count least (p ∷ ps) e l = passed count least p ps e .inside
 
--- the weights that they leave make a table
-pub small : (ws : List ℕ) (least : ℕ) (ps vs : List ℕ) → total ws ≤ mostTotal → itemsRefusal ws least ps vs ≡ none
-    → total (replaced ws ps vs) ≤ mostTotal
+-- ---- the weights that they leave
+
+pub item-replaced : (ws : List ℕ) (p v : ℕ) (ps vs : List ℕ) → replaced ws (p ∷ ps) (v ∷ vs) ≡ replaced (set ws p v) ps vs
 unfolding replaced
-small ws least [] vs t e = t
-small ws least (p ∷ ps) [] t e = t
-small ws least (p ∷ ps) (v ∷ vs) t e =
-    let d = passed ws least p v ps vs e in small (set ws p v) (suc p) ps vs (d .small) (d .others)
+item-replaced ws p v ps vs = refl
 
-pub heavy : (ws : List ℕ) (least : ℕ) (ps vs : List ℕ) → length ps ≡ length vs → itemsRefusal ws least ps vs ≡ none → 0 < total (replaced ws ps vs)
+pub none-replaced : (ws vs : List ℕ) → replaced ws [] vs ≡ ws
 unfolding replaced
-heavy ws least [] vs h e = end-weighs ws least vs e
-heavy ws least (p ∷ ps) [] h e = absurd (omega arith)
-heavy ws least (p ∷ ps) (v ∷ vs) h e =
-    let d = passed ws least p v ps vs e in heavy (set ws p v) (suc p) ps vs (omega arith) (d .others)
+none-replaced ws vs = refl
 
 pub replaced-length : (ws ps vs : List ℕ) → length (replaced ws ps vs) ≡ length ws
 unfolding replaced
 replaced-length ws [] vs = refl
 replaced-length ws (p ∷ ps) [] = refl
 replaced-length ws (p ∷ ps) (v ∷ vs) = replaced-length (set ws p v) ps vs ∙ length-set ws p v
+
+module _ (ws : List ℕ) where
+  pub weights-overflow : mostTotal < total ws → weightsRefusal ws ≡ some Overflow
+  unfolding weightsRefusal
+  weights-overflow h = rw (too-much ws h)
+
+  pub weights-zero : total ws ≡ 0 → weightsRefusal ws ≡ some InsufficientNonZero
+  unfolding weightsRefusal
+  weights-zero h = rw (not-too-much ws (omega arith), all-zero ws h)
+
+  pub weights-accepted : 0 < total ws → total ws ≤ mostTotal → weightsRefusal ws ≡ none
+  unfolding weightsRefusal
+  weights-accepted h k = rw (not-too-much ws k, not-all-zero ws h)
+
+  -- weights that are not refused make a table
+  pub weighed : weightsRefusal ws ≡ none → (0 < total ws) × (total ws ≤ mostTotal)
+  weighed e = first (ltb mostTotal (total ws)) refl
+    where
+      second : total ws ≤ mostTotal → (b : Bool) → ltb 0 (total ws) ≡ b → (0 < total ws) × (total ws ≤ mostTotal)
+      second k true q = (ltb-true 0 (total ws) q, k)
+      second k false q = absurd (refused-none (sym (weights-zero (let n = ltb-false 0 (total ws) q in omega arith)) ∙ e))
+
+      first : (b : Bool) → ltb mostTotal (total ws) ≡ b → (0 < total ws) × (total ws ≤ mostTotal)
+      first true q = absurd (refused-none (sym (weights-overflow (ltb-true mostTotal (total ws) q)) ∙ e))
+      first false q = second (ltb-false mostTotal (total ws) q) (ltb 0 (total ws)) refl
+
+-- ---- all items
+
+module _ (ws ps vs : List ℕ) where
+  pub items-refused : (why : Refusal) → placesRefusal (length ws) 0 ps ≡ some why → itemsRefusal ws ps vs ≡ some why
+  unfolding itemsRefusal
+  items-refused why e = rw e
+
+  pub items-placed : placesRefusal (length ws) 0 ps ≡ none → itemsRefusal ws ps vs ≡ weightsRefusal (replaced ws ps vs)
+  unfolding itemsRefusal
+  items-placed e = rw e
+
+  -- items that are not refused leave the weights of a table
+  pub items-weighed : itemsRefusal ws ps vs ≡ none → (0 < total (replaced ws ps vs)) × (total (replaced ws ps vs) ≤ mostTotal)
+  items-weighed e = go (placesRefusal (length ws) 0 ps) refl
+    where
+      go : (o : Option Refusal) → placesRefusal (length ws) 0 ps ≡ o → (0 < total (replaced ws ps vs)) × (total (replaced ws ps vs) ≤ mostTotal)
+      go none q = weighed (replaced ws ps vs) (sym (items-placed q) ∙ e)
+      go (some why) q = absurd (refused-none (sym (items-refused why q) ∙ e))

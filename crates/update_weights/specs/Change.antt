@@ -25,16 +25,26 @@ replaced ws [] vs = ws
 replaced ws (p ∷ ps) [] = ws
 replaced ws (p ∷ ps) (v ∷ vs) = replaced (set ws p v) ps vs
 
--- The first refusal of the items in turn, and at the end 4. Places go up from least. An item's total has its old weight dropped and its new
--- one added: it is that of ws with the items so far replaced, and it may at no item be too much.
-unfoldable pub itemsRefusal : (ws : List ℕ) (least : ℕ) (ps vs : List ℕ) → Option Refusal
-itemsRefusal ws least [] vs = cond (allZero ws) (some InsufficientNonZero) none
-itemsRefusal ws least (p ∷ ps) [] = cond (allZero ws) (some InsufficientNonZero) none
-itemsRefusal ws least (p ∷ ps) (v ∷ vs) =
+-- the first refusal of the places in turn: of one below least, which is not above the place before it, and of one that is not below the count
+unfoldable pub placesRefusal : (count least : ℕ) (ps : List ℕ) → Option Refusal
+placesRefusal count least [] = none
+placesRefusal count least (p ∷ ps) =
     cond (ltb p least) (some PlacesNotIncreasing)
-    (cond (leb (length ws) p) (some PlaceOutOfRange)
-    (cond (overflows (set ws p v)) (some Overflow)
-    (itemsRefusal (set ws p v) (suc p) ps vs)))
+    (cond (leb count p) (some PlaceOutOfRange)
+    (placesRefusal count (suc p) ps))
+
+-- the refusal of weights that make no table: they add up to too much, or all of them are 0
+unfoldable pub weightsRefusal : (ws : List ℕ) → Option Refusal
+weightsRefusal ws = cond (overflows ws) (some Overflow) (cond (allZero ws) (some InsufficientNonZero) none)
+
+-- the first of two refusals
+abbrev pub orElse : Option Refusal → Option Refusal → Option Refusal
+orElse none later = later
+orElse (some why) later = some why
+
+-- the first refusal of the items: of their places in turn, and after all of them of the weights that the whole list leaves
+unfoldable pub itemsRefusal : (ws ps vs : List ℕ) → Option Refusal
+itemsRefusal ws ps vs = orElse (placesRefusal (length ws) 0 ps) (weightsRefusal (replaced ws ps vs))
 
 -- a list of weights or a table is too long (a list of places is no list of weights)
 abbrev pub tooLong : (count : ℕ) (vs : List ℕ) → Bool
@@ -42,7 +52,7 @@ tooLong count vs = ltb mostWeights count || ltb mostWeights (length vs)
 
 -- the first refusal of the two lists, which go together
 unfoldable pub listsRefusal : (ws ps vs : List ℕ) → Option Refusal
-listsRefusal ws ps vs = cond (eqb (length ps) (length vs)) (itemsRefusal ws 0 ps vs) (some SliceTooShort)
+listsRefusal ws ps vs = cond (eqb (length ps) (length vs)) (itemsRefusal ws ps vs) (some SliceTooShort)
 
 -- ---- the call
 
@@ -65,12 +75,13 @@ abbrev pub answerOfChecked : Checked → Answer
 answerOfChecked (checked.Total n) = done (n ∷ [])
 answerOfChecked (checked.Refused why) = declined why
 
--- the total with all items replaced, or the first refusal
+-- what the weights add up to with all items replaced, however much that is, or the first refusal of the places
 unfoldable pub checkOf : (ws ps vs : List ℕ) → Answer
-checkOf ws ps vs = decided (itemsRefusal ws 0 ps vs) (total (replaced ws ps vs) ∷ [])
+checkOf ws ps vs = decided (placesRefusal (length ws) 0 ps) (total (replaced ws ps vs) ∷ [])
 
--- the sums may be written: the table is whole and no item is refused
+-- the sums may be written: the table is whole, no place is refused, and the changed weights do not add up to too much
 pub record Rewritable (t : WeightedIndex) (sums ps vs : List ℕ) : Type 0 where
   pub whole : brokenTable t sums ≡ false
   pub same : length ps ≡ length vs
-  pub accepted : itemsRefusal (heldWeights t sums) 0 ps vs ≡ none
+  pub placed : placesRefusal (length (heldWeights t sums)) 0 ps ≡ none
+  pub fits : overflows (replaced (heldWeights t sums) ps vs) ≡ false

@@ -1,7 +1,9 @@
 // A change of some weights of a table.
 ghost use mathlib.Core.Path.{_≡_};
 ghost use mathlib.Core.Bool.{false};
+ghost use Prim.Native.Nat.{_≤_};
 ghost use lib.ListN.{length};
+ghost use Rattle.weighted_index.specs.Weights.{mostWeights};
 ghost use Rattle.weighted_index.specs.Tables.{brokenTable, heldWeights, heldSums};
 ghost use Rattle.weighted_index.specs.Answers.{ended};
 ghost use Rattle.update_weights.specs.Change.{replaced, Rewritable, answerOfChecked, checkOf, updateOf};
@@ -15,22 +17,23 @@ use weighted_index::answer::refused;
 use weighted_index::table::is_broken;
 use weighted_index::table::weight_at;
 
-// What the checks of a change's items end in: the new total, or why the change is refused. The definition `answerOfChecked` gives the
-// number and the values of each case.
+// What the checks of a change's items end in: what the changed weights add up to, or why the change is refused. The definition
+// `answerOfChecked` gives the number and the values of each case.
 pub(crate) enum Checked {
-    Total(u32),
+    Total(u64),
     Refused(Refusal),
 }
 
 // Looks at the items in turn and writes nothing, so that a refused change leaves every sum as it was. Old weights are the table's own:
-// places go up, so that none is looked at twice.
+// places go up, so that none is looked at twice. The total may pass 2^32 - 1 on the way and come back: it is weighed when all items are
+// in it, and 64 bits hold that of as many weights as a table may have.
 fn check_items(
     table: WeightedIndex,
     cumulative_weights: &[u32],
     places: &[u64],
     weights: &[u32],
 ) -> Checked
-    requires { ⌜ (brokenTable table (now «cumulative_weights») ≡ false) × (length (now places) ≡ length (now weights)) ⌝ }
+    requires { ⌜ (brokenTable table (now «cumulative_weights») ≡ false) × (table .count ≤ mostWeights) × (length (now places) ≡ length (now weights)) ⌝ }
     ensures { λ r. ⌜ answerOfChecked r ≡ checkOf (heldWeights table (now («cumulative_weights» .entry))) (now (places .entry)) (now (weights .entry)) ⌝ }
 {
     let count = table.count;
@@ -45,18 +48,10 @@ fn check_items(
             return Checked::Refused(Refusal::PlaceOutOfRange);
         }
         let old = weight_at(table, cumulative_weights, place);
-        let next = running - old as u64 + weights[j] as u64;
-        if next > MOST_TOTAL {
-            return Checked::Refused(Refusal::Overflow);
-        }
-        running = next;
+        running = running - old as u64 + weights[j] as u64;
         least = place + 1;
     }
-    if running == 0 {
-        return Checked::Refused(Refusal::InsufficientNonZero);
-    }
-    let total = running as u32;
-    Checked::Total(total)
+    Checked::Total(running)
 }
 
 // Writes the sums of the changed weights over the old ones, from the first place on. The old weight at i is the old sum there less the one
@@ -95,8 +90,8 @@ fn rewrite(table: WeightedIndex, cumulative_weights: &mut [u32], places: &[u64],
 // over the old ones; entries past them never change. An empty change is accepted. After any list of changes, refused ones included, the
 // answers and the table are those of a plain list of weights (`HistoryClaim`), and every item has its share of the picks (`PickShares`).
 // A refusal changes nothing: 10 for a count or a list of weights above 2^32 - 2, 7 for a table that is that of no weights, 8 where the lists
-// differ in length; then for each item in turn 5 for a place that is not above the one before, 6 for a place that is not below the count, 3
-// where the total with the items so far is above 2^32 - 1; at the end 4 where every weight would be 0. The first that applies is given.
+// differ in length; then for each item in turn 5 for a place that is not above the one before, 6 for a place that is not below the count;
+// after all items 3 where the changed weights add up to more than 2^32 - 1, 4 where every weight would be 0. The first that applies is given.
 // Cost: the check for 7 reads all sums, and those from the first place on are written.
 pub fn update_weights(
     table: WeightedIndex,
@@ -123,7 +118,14 @@ pub fn update_weights(
     let checked = check_items(table, cumulative_weights, places, weights);
     match checked {
         Checked::Refused(why) => refused(why),
-        Checked::Total(total) => {
+        Checked::Total(all) => {
+            if all > MOST_TOTAL {
+                return refused(Refusal::Overflow);
+            }
+            if all == 0 {
+                return refused(Refusal::InsufficientNonZero);
+            }
+            let total = all as u32;
             rewrite(table, cumulative_weights, places, weights);
             accepted(count, total)
         }

@@ -17,5 +17,5 @@ use Rattle.pick.specs.Pick.{itemAt}
 use Rattle.worked_examples.specs.Table.{nextWords, drawRow, rejectRow, boundRow, newSums, pickRow, changeRow, table, holds, WorkedExamples}
 
 pub worked-examples : WorkedExamples
-unfolding add64 shl64 rotl64 output advance word boundedValue readsTwo bounded accepts scaled rejectingAt rejecting replaced floydFrom floydOf factors moreFrom moreOf handed indicesOf shuffleFrom shuffleOf total overflows allZero sumsFrom weightsFrom firstAbove tableOf heldSums heldWeights falls exceeds brokenTable refuses makes newOf Change.replaced Change.itemsRefusal Change.listsRefusal Change.updateOf itemAt nextWords drawRow rejectRow boundRow newSums pickRow changeRow table holds
+unfolding add64 shl64 rotl64 output advance word boundedValue readsTwo bounded accepts scaled rejectingAt rejecting replaced floydFrom floydOf factors moreFrom moreOf handed indicesOf shuffleFrom shuffleOf total overflows allZero sumsFrom weightsFrom firstAbove tableOf heldSums heldWeights falls exceeds brokenTable refuses makes newOf Change.replaced Change.placesRefusal Change.weightsRefusal Change.itemsRefusal Change.listsRefusal Change.updateOf itemAt nextWords drawRow rejectRow boundRow newSums pickRow changeRow table holds
 worked-examples = record { all = refl }

@@ -1,13 +1,13 @@
 -- `check_items` meets its contract. The invariant is `Checking`. Assumes nothing.
 use mathlib.Core.Path.{_≡_, refl, sym}
 use mathlib.Core.List.{List}
-use Prim.Native.Nat.{ℕ, _-_}
+use Prim.Native.Nat.{ℕ, _-_, _^_, _≤_, _<_}
 use native.Mathlib.Omega.{arith}
 use denote.Ref.{now}
-use lib.ListN.{length}
+use lib.ListN.{length, getD}
 use Rattle.weighted_index.specs.Tables.{heldWeights}
 use Rattle.weighted_index.proofs.Whole.{whole, held-length, held-total}
-use Rattle.update_weights.proofs.Checking.{Checking, begin, finish, finish-zero, turn-order, turn-range, old-fits, turn-overflow, turn}
+use Rattle.update_weights.proofs.Checking.{Checking, begin, finish, turn-order, turn-range, old-fits, new-fits, turn}
 use borrow.Author.Needs.{needs}
 use Rattle.update_weights.proofs.check_items.Statement.{statement}
 use Rattle.update_weights.proofs.check_items.Tie as tie
@@ -20,9 +20,19 @@ Inv-loop table cumulative-weights places weights count running₀ least₀ j₀ 
 abbrev μ-loop : tie.MeasureT-loop
 μ-loop table cumulative-weights places weights count running₀ least₀ j₀ j-end running least j = j-end - j
 
+-- ---- what the function is given
+
 -- the weights that the table holds
 abbrev held : tie.Start Inv-loop μ-loop → List ℕ
 held s = heldWeights (s .args .table) (now (s .args .cumulative-weights))
+
+abbrev ps : tie.Start Inv-loop μ-loop → List ℕ
+ps s = now (s .args .places)
+
+abbrev vs : tie.Start Inv-loop μ-loop → List ℕ
+vs s = now (s .args .weights)
+
+-- ---- before the loop
 
 cast-running : tie.Need-cast-running Inv-loop μ-loop
 cast-running c = search needs
@@ -30,9 +40,15 @@ cast-running c = search needs
 loop-holds : tie.Need-loop-holds Inv-loop μ-loop
 loop-holds c =
     let s = c .before .before .before .before in
-    let a = s .args in
-    let w = whole (a .table) (now (a .cumulative-weights)) (s .pre .0) in
-    (refl, refl, held-length (a .table) (now (a .cumulative-weights)) w, begin (held s) (now (a .places)) (now (a .weights)) (a .table .«total_weight») (s .pre .1) (sym (held-total (a .table) (now (a .cumulative-weights)) w)) (omega arith))
+    let t = s .args .table in
+    let sums = now (s .args .cumulative-weights) in
+    let w = whole t sums (s .pre .0) in
+    (refl, refl, held-length t sums w, begin (held s) (ps s) (vs s) (t .«total_weight») (s .pre .2) (sym (held-total t sums w)) (omega arith))
+
+-- ---- in the loop
+
+abbrev start : tie.At-loop Inv-loop μ-loop → tie.Start Inv-loop μ-loop
+start l = l .before .before .before .before .before
 
 mul-place : tie.Need-mul-place Inv-loop μ-loop
 mul-place c = search needs
@@ -42,47 +58,53 @@ shared-slice-read-place c = search needs
 
 returns : tie.Need-returns Inv-loop μ-loop
 returns c =
-    let s = c .before .before .before .before .before .before .before .before in
-    let l = c .before .before .before .loop in
-    sym (turn-order (held s) (now (s .args .places)) (now (s .args .weights)) (l .running) (l .least) (l .j) (l .inv .3) (omega arith) (c .if1 .taken))
+    let l = c .before .before .before in
+    let s = start l in
+    sym (turn-order (held s) (ps s) (vs s) (l .loop .running) (l .loop .least) (l .loop .j) (l .loop .inv .3) (omega arith) (c .if1 .taken))
 
 returns-2 : tie.Need-returns-2 Inv-loop μ-loop
 returns-2 c =
-    let s = c .before .before .before .before .before .before .before .before .before in
-    let l = c .before .before .before .before .loop in
-    sym (turn-range (held s) (now (s .args .places)) (now (s .args .weights)) (l .running) (l .least) (l .j) (l .inv .3) (omega arith) (c .before .if1 .left) (omega (arith, l .inv .2)))
+    let l = c .before .before .before .before in
+    let s = start l in
+    sym (turn-range (held s) (ps s) (vs s) (l .loop .running) (l .loop .least) (l .loop .j) (l .loop .inv .3) (omega arith) (c .before .if1 .left) (omega (arith, l .loop .inv .2)))
 
 weight-at-requires : tie.Need-weight-at-requires Inv-loop μ-loop
-weight-at-requires c κs = (c .before .before .before .before .before .before .before .before .before .pre .0, omega arith)
+weight-at-requires c κs = (start (c .before .before .before .before) .pre .0, omega arith)
 
-cast-next : tie.Need-cast-next Inv-loop μ-loop
-cast-next c = search needs
+-- ---- the old weight is known: the item goes into the total
 
-sub-next : tie.Need-sub-next Inv-loop μ-loop
-sub-next c =
-    let s = c .before .before .before .before .before .before .before .before .before .before in
-    let l = c .before .before .before .before .before .loop in
-    omega (arith, old-fits (held s) (now (s .args .places)) (now (s .args .weights)) (l .running) (l .least) (l .j) (l .inv .3) (omega arith) (c .before .before .if1 .left) (omega (arith, l .inv .2)) (c .weight-at .result) (c .weight-at .ensures))
+abbrev at : tie.After-weight-at Inv-loop μ-loop → tie.At-loop Inv-loop μ-loop
+at c = c .before .before .before .before .before
 
-mul-next : tie.Need-mul-next Inv-loop μ-loop
-mul-next c = search needs
+cast-running-2 : tie.Need-cast-running-2 Inv-loop μ-loop
+cast-running-2 c = search needs
 
-shared-slice-read-next : tie.Need-shared-slice-read-next Inv-loop μ-loop
-shared-slice-read-next c = search needs
+sub-running : tie.Need-sub-running Inv-loop μ-loop
+sub-running c =
+    let l = at c in
+    let s = start l in
+    old-fits (held s) (ps s) (vs s) (l .loop .running) (l .loop .least) (l .loop .j) (l .loop .inv .3) (omega arith) (c .before .before .if1 .left) (omega (arith, l .loop .inv .2)) (c .weight-at .result) (c .weight-at .ensures)
 
-cast-next-2 : tie.Need-cast-next-2 Inv-loop μ-loop
-cast-next-2 c = omega (arith, c .shared-slice-known5 .given (c .before .before .before .before .before .before .loop .j))
+mul-running : tie.Need-mul-running Inv-loop μ-loop
+mul-running c = search needs
 
-add-next : tie.Need-add-next Inv-loop μ-loop
-add-next c =
-    omega (arith, c .shared-slice-known5 .given (c .before .before .before .before .before .before .loop .j), c .before .before .before .before .before .before .loop .inv .3 .small)
+shared-slice-read-running : tie.Need-shared-slice-read-running Inv-loop μ-loop
+shared-slice-read-running c = search needs
 
-returns-3 : tie.Need-returns-3 Inv-loop μ-loop
-returns-3 c =
-    let s = c .before .before .before .before .before .before .before .before .before .before .before .before in
-    let l = c .before .before .before .before .before .before .before .loop in
-    let w = c .before .before .weight-at in
-    sym (turn-overflow (held s) (now (s .args .places)) (now (s .args .weights)) (l .running) (l .least) (l .j) (l .inv .3) (omega arith) (c .before .before .before .before .if1 .left) (omega (arith, l .inv .2)) (w .result) (w .ensures) (omega (arith, c .if3 .taken)))
+-- the new weight is a u32
+new-small : (c : tie.After-shared-slice-known5 Inv-loop μ-loop) → let l = at (c .before) in getD (vs (start l)) (l .loop .j) 0 < 2 ^ 32
+new-small c = omega (arith, c .shared-slice-known5 .given (at (c .before) .loop .j))
+
+cast-running-3 : tie.Need-cast-running-3 Inv-loop μ-loop
+cast-running-3 c = omega (arith, new-small c)
+
+add-running : tie.Need-add-running Inv-loop μ-loop
+add-running c =
+    let l = at (c .before) in
+    let s = start l in
+    let w = c .before .weight-at in
+    let f = new-fits (held s) (ps s) (vs s) (l .loop .running) (l .loop .least) (l .loop .j) (l .loop .inv .3) (omega arith) (c .before .before .before .if1 .left) (omega (arith, l .loop .inv .2)) (w .result) (w .ensures) (new-small c) (omega (arith, l .loop .inv .2, s .pre .1)) in
+    omega arith
 
 add-least : tie.Need-add-least Inv-loop μ-loop
 add-least c = search needs
@@ -95,25 +117,18 @@ loop-less c = search needs
 
 loop-again : tie.Need-loop-again Inv-loop μ-loop
 loop-again c =
-    let s = c .before .before .before .before .before .before .before .before .before .before .before .before in
-    let l = c .before .before .before .before .before .before .before .loop in
-    let w = c .before .before .weight-at in
-    (l .inv .0, l .inv .1, l .inv .2, turn (held s) (now (s .args .places)) (now (s .args .weights)) (l .running) (l .least) (l .j) (l .inv .3) (omega arith) (c .before .before .before .before .if1 .left) (omega (arith, l .inv .2)) (w .result) (w .ensures) (omega (arith, c .if3 .left)))
+    let l = at (c .before) in
+    let s = start l in
+    let w = c .before .weight-at in
+    (l .loop .inv .0, l .loop .inv .1, l .loop .inv .2, turn (held s) (ps s) (vs s) (l .loop .running) (l .loop .least) (l .loop .j) (l .loop .inv .3) (omega arith) (c .before .before .before .if1 .left) (omega (arith, l .loop .inv .2)) (w .result) (w .ensures) (new-small c))
 
-returns-4 : tie.Need-returns-4 Inv-loop μ-loop
-returns-4 c =
-    let s = c .before .before .before .before .before .before .before in
-    let l = c .before .before .loop in
-    sym (finish-zero (held s) (now (s .args .places)) (now (s .args .weights)) (l .running) (l .least) (l .j) (l .inv .3) (omega arith) (c .if4 .taken))
+-- ---- after the loop
 
-cast-total : tie.Need-cast-total Inv-loop μ-loop
-cast-total c = omega (arith, c .before .before .loop .inv .3 .small)
-
-returns-5 : tie.Need-returns-5 Inv-loop μ-loop
-returns-5 c =
-    let s = c .before .before .before .before .before .before .before in
-    let l = c .before .before .loop in
-    sym (finish (held s) (now (s .args .places)) (now (s .args .weights)) (l .running) (l .least) (l .j) (l .inv .3) (omega arith) (c .if4 .left))
+returns-3 : tie.Need-returns-3 Inv-loop μ-loop
+returns-3 c =
+    let l = c .before in
+    let s = start l in
+    sym (finish (held s) (ps s) (vs s) (l .loop .running) (l .loop .least) (l .loop .j) (l .loop .inv .3) (omega arith))
 
 pub check-items-spec : {M : Type 1} → statement M
 check-items-spec =
@@ -128,17 +143,14 @@ check-items-spec =
     returns
     returns-2
     weight-at-requires
-    cast-next
-    sub-next
-    mul-next
-    shared-slice-read-next
-    cast-next-2
-    add-next
-    returns-3
+    cast-running-2
+    sub-running
+    mul-running
+    shared-slice-read-running
+    cast-running-3
+    add-running
     add-least
     add-j
     loop-less
     loop-again
-    returns-4
-    cast-total
-    returns-5)
+    returns-3)

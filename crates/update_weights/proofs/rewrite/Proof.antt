@@ -5,10 +5,12 @@ use mathlib.Core.List.{List}
 use Prim.Native.Nat.{ℕ, _+_, _-_, _≤_}
 use native.Mathlib.Omega.{arith}
 use denote.Ref.{now}
-use lib.ListN.{getD}
+use lib.ListN.{length, getD}
 use Rattle.weighted_index.specs.Tables.{heldWeights}
-use Rattle.weighted_index.proofs.Whole.{whole, held-length, held-total}
-use Rattle.update_weights.proofs.Items.{ordered, small, first-inside}
+use Rattle.update_weights.specs.Change.{replaced}
+use Rattle.weighted_index.proofs.Totals.{small-total}
+use Rattle.weighted_index.proofs.Whole.{whole, held-length}
+use Rattle.update_weights.proofs.Items.{ordered, first-inside}
 use Rattle.update_weights.proofs.Rewriting.{Ready, Rewriting, Next, begin-at, before-some, before-none, rising-sum, next-item, next-before, next-after, sum-fits, turn, finish, unchanged}
 use borrow.Author.Needs.{needs}
 use Rattle.update_weights.proofs.rewrite.Statement.{statement}
@@ -47,10 +49,10 @@ ready s =
     record {
       room = w .room;
       same = s .pre .same;
-      fits = small ws 0 (ps s) (vs s) (omega (arith, held-total t (sums s) w)) (s .pre .accepted);
+      fits = small-total (replaced ws (ps s) (vs s)) (s .pre .fits);
       rising = w .rising;
-      order = ordered ws 0 (ps s) (vs s) (s .pre .same) (s .pre .accepted);
-      inside = λ h. omega (arith, first-inside ws 0 (ps s) (vs s) (s .pre .same) (s .pre .accepted) h, held-length t (sums s) w);
+      order = ordered (length ws) 0 (ps s) (s .pre .placed);
+      inside = λ h. omega (arith, first-inside (length ws) 0 (ps s) (s .pre .placed) h, held-length t (sums s) w);
     }
 
 -- ---- before the loop
