@@ -1,11 +1,14 @@
 -- `check_items` meets its contract. The invariant is `Checking`. Assumes nothing.
 use mathlib.Core.Path.{_≡_, refl, sym}
 use mathlib.Core.List.{List}
-use Prim.Native.Nat.{ℕ, _-_, _^_, _≤_, _<_}
+use Prim.Native.Nat.{ℕ, _+_, _-_, _^_, _<_}
 use native.Mathlib.Omega.{arith}
 use denote.Ref.{now}
 use lib.ListN.{length, getD}
+use Rattle.refusal.specs.Answer.{declined}
+use Rattle.refusal.specs.declared.Refusal.the-variants.{PlacesNotIncreasing}
 use Rattle.weighted_index.specs.Tables.{heldWeights}
+use Rattle.update_weights.specs.Change.{checkOf}
 use Rattle.weighted_index.proofs.Whole.{whole, held-length, held-total}
 use Rattle.update_weights.proofs.Checking.{Checking, begin, finish, turn-order, turn-range, old-fits, new-fits, turn}
 use borrow.Author.Needs.{needs}
@@ -56,11 +59,15 @@ mul-place c = search needs
 shared-slice-read-place : tie.Need-shared-slice-read-place Inv-loop μ-loop
 shared-slice-read-place c = search needs
 
-returns : tie.Need-returns Inv-loop μ-loop
-returns c =
+-- a place that is not above the one before it
+order : (c : tie.Then1 Inv-loop μ-loop) → let s = start (c .before .before .before) in declined PlacesNotIncreasing ≡ checkOf (held s) (ps s) (vs s)
+order c =
     let l = c .before .before .before in
     let s = start l in
     sym (turn-order (held s) (ps s) (vs s) (l .loop .running) (l .loop .least) (l .loop .j) (l .loop .inv .3) (omega arith) (c .if1 .taken))
+
+returns : tie.Need-returns Inv-loop μ-loop
+returns c = order c
 
 returns-2 : tie.Need-returns-2 Inv-loop μ-loop
 returns-2 c =
@@ -115,12 +122,17 @@ add-j c = search needs
 loop-less : tie.Need-loop-less Inv-loop μ-loop
 loop-less c = search needs
 
-loop-again : tie.Need-loop-again Inv-loop μ-loop
-loop-again c =
+-- the item is in the total
+weighed : (c : tie.After-shared-slice-known5 Inv-loop μ-loop) → let l = at (c .before) in let s = start l in
+    Checking (held s) (ps s) (vs s) (l .loop .running - c .before .weight-at .result + getD (vs s) (l .loop .j) 0) (getD (ps s) (l .loop .j) 0 + 1) (l .loop .j + 1)
+weighed c =
     let l = at (c .before) in
     let s = start l in
     let w = c .before .weight-at in
-    (l .loop .inv .0, l .loop .inv .1, l .loop .inv .2, turn (held s) (ps s) (vs s) (l .loop .running) (l .loop .least) (l .loop .j) (l .loop .inv .3) (omega arith) (c .before .before .before .if1 .left) (omega (arith, l .loop .inv .2)) (w .result) (w .ensures) (new-small c))
+    turn (held s) (ps s) (vs s) (l .loop .running) (l .loop .least) (l .loop .j) (l .loop .inv .3) (omega arith) (c .before .before .before .if1 .left) (omega (arith, l .loop .inv .2)) (w .result) (w .ensures) (new-small c)
+
+loop-again : tie.Need-loop-again Inv-loop μ-loop
+loop-again c = let l = at (c .before) .loop in (l .inv .0, l .inv .1, l .inv .2, weighed c)
 
 -- ---- after the loop
 

@@ -9,7 +9,7 @@ use denote.Ref.{now}
 use lib.ListN.{length}
 use Rattle.weighted_index.specs.Weights.{total}
 use Rattle.weighted_index.specs.Tables.{heldWeights, brokenTable}
-use Rattle.update_weights.specs.Change.{replaced, placesRefusal}
+use Rattle.update_weights.specs.Change.{replaced, placesRefusal, Rewritable}
 use Rattle.weighted_index.proofs.Totals.{not-too-much}
 use Rattle.update_weights.proofs.ChangeCases.{too-long, list-too-long, invalid, too-short, item-refused, items-placed-at, overflowing, all-zero, changed}
 use borrow.Author.Needs.{needs}
@@ -177,17 +177,21 @@ returns-6 c =
 cast-total : tie.Need-cast-total
 cast-total c = search needs
 
-rewrite-requires : tie.Need-rewrite-requires
-rewrite-requires c κs =
-    let u = c .before .before .before in
+-- where the total is not too much, the sums may be written
+rewritable : (f : tie.Else5) → let s = start (long (agree (looked (f .before)) .before)) in Rewritable (s .args .table) (sums s) (ps s) (vs s)
+rewritable f =
+    let u = f .before in
     let l = agree (looked u) in
     let s = start (long (l .before)) in
     record {
       whole = whole (l .before);
       same = l .if4 .left;
       placed = placed u .0;
-      fits = not-too-much (replaced (held s) (ps s) (vs s)) (omega (arith, placed u .1, c .before .before .if5 .left));
+      fits = not-too-much (replaced (held s) (ps s) (vs s)) (omega (arith, placed u .1, f .if5 .left));
     }
+
+rewrite-requires : tie.Need-rewrite-requires
+rewrite-requires c κs = rewritable (c .before .before)
 
 accepted-requires : tie.Need-accepted-requires
 accepted-requires c κs = search needs
@@ -198,14 +202,15 @@ same-length-6 c = search needs
 returns-8 : tie.Need-returns-8
 returns-8 c =
     let written = c .before .before .before in
-    let more = written .before .before in
-    let u = more .before .before in
+    let some = written .before .before in
+    let fits = some .before in
+    let u = fits .before in
     let l = agree (looked u) in
     let w = l .before in
     let e = long w in
     let s = start e in
     c .accepted .ensures _
-    ∙ sym (changed (s .args .table) (sums s) (ps s) (vs s) (e .before .if1 .left) (e .if2 .left) (whole w) (l .if4 .left) (all u) (placed u .0) (placed u .1) _ (omega (arith, more .if6 .left)) (more .before .if5 .left) (written .rewrite .ensures))
+    ∙ sym (changed (s .args .table) (sums s) (ps s) (vs s) (e .before .if1 .left) (e .if2 .left) (whole w) (l .if4 .left) (all u) (placed u .0) (placed u .1) _ (omega (arith, some .if6 .left)) (fits .if5 .left) (written .rewrite .ensures))
 
 pub update-weights-spec : {M : Type 1} → statement M
 update-weights-spec =
