@@ -16,7 +16,7 @@
 
 /* The version: 1 for the base, and one more with each request (docs/requests/). A caller can test it by #if; CHANGELOG.md says what has
  * to be changed in the caller, if anything has. */
-#define GAPYNDURA_VERSION 3
+#define GAPYNDURA_VERSION 4
 
 #ifdef __cplusplus
 extern "C" {
@@ -138,7 +138,8 @@ uint32_t gapyndura_sample_fill(uint64_t state[4], const uint32_t *items, size_t 
 uint32_t gapyndura_weights_new(const uint32_t *weights, size_t count, uint32_t *cumulative_weights, size_t cumulative_len,
                                uint64_t table[2]);
 
-/* Gives the weights to the places: weights[j] to the one at places[j], which go up. An empty change is accepted.
+/* Gives the weights to the places: weights[j] to the one at places[j], which go up. An empty change is accepted. What the weights add up to
+ * is weighed when all are changed, so that a list may raise one first and lower another after it.
  *
  * Answers 0 where the table is changed, else the number of the first cause here that applies:
  *   10  the count, or weights_len, is above 2^32 - 2
@@ -147,8 +148,8 @@ uint32_t gapyndura_weights_new(const uint32_t *weights, size_t count, uint32_t *
  *   then for each place in turn:
  *    5  it is not above the one before
  *    6  it is not below the count
- *    3  with the changes up to it the weights add up to more than 2^32 - 1
- *   and at the end:
+ *   and after all of them:
+ *    3  the changed weights add up to more than 2^32 - 1
  *    4  every weight would be 0
  *
  * On every answer:

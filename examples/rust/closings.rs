@@ -12,8 +12,8 @@ use gapyndura::slice::{partial_shuffle, shuffle};
 use gapyndura::weighted_index::WeightedIndex;
 use gapyndura::{Refusal, Xoshiro256PlusPlus};
 
-/// The calls are made as version 3 has them; `CHANGELOG.md` says what a later one changes.
-const _: () = assert!(gapyndura::VERSION == 3);
+/// The calls are made as version 4 has them; `CHANGELOG.md` says what a later one changes.
+const _: () = assert!(gapyndura::VERSION == 4);
 
 /// The most words that a call may read which could else read on for ever.
 const BUDGET: u64 = 1000;

@@ -133,7 +133,8 @@ impl WeightedIndex {
     /// Gives each of `places` its weight of `weights`, and so changes the record and the sums.
     ///
     /// It is the table that rand's `WeightedIndex::update_weights` leaves. Places count from 0 and must increase. An empty
-    /// change is accepted. Entries past the sums never change.
+    /// change is accepted. What the weights sum to is weighed when all are changed, so a list may raise one first and lower another
+    /// after it. Entries past the sums never change.
     ///
     /// ```
     /// use gapyndura::weighted_index::WeightedIndex;
@@ -143,6 +144,8 @@ impl WeightedIndex {
     /// table.update_weights(&mut cumulative_weights, &[0, 2], &[1, 8])?;
     /// assert_eq!((table.count, table.total_weight), (3, 9));
     /// assert_eq!(cumulative_weights, [1, 1]);
+    /// table.update_weights(&mut cumulative_weights, &[0, 2], &[u32::MAX, 0])?;
+    /// assert_eq!((table.total_weight, cumulative_weights), (u32::MAX, [u32::MAX; 2]));
     /// # Ok::<(), gapyndura::Refusal>(())
     /// ```
     ///
@@ -150,10 +153,10 @@ impl WeightedIndex {
     ///
     /// The first of these that applies: [`TooLong`](Refusal::TooLong), for a count or a list of weights above 2^32 - 2;
     /// [`InvalidTable`](Refusal::InvalidTable); [`SliceTooShort`](Refusal::SliceTooShort), for lists that differ in length;
-    /// then for each item in turn [`PlacesNotIncreasing`](Refusal::PlacesNotIncreasing),
-    /// [`PlaceOutOfRange`](Refusal::PlaceOutOfRange), and [`Overflow`](Refusal::Overflow), where the total with the items so
-    /// far is above 2^32 - 1; at the end [`InsufficientNonZero`](Refusal::InsufficientNonZero), where every weight would be 0.
-    /// Then the record and the slice are unchanged.
+    /// then for each item in turn [`PlacesNotIncreasing`](Refusal::PlacesNotIncreasing) and
+    /// [`PlaceOutOfRange`](Refusal::PlaceOutOfRange); after all items [`Overflow`](Refusal::Overflow), where the changed weights
+    /// sum above 2^32 - 1, and [`InsufficientNonZero`](Refusal::InsufficientNonZero), where every weight would be 0. Then the
+    /// record and the slice are unchanged.
     ///
     /// ```
     /// use gapyndura::Refusal;
@@ -161,8 +164,8 @@ impl WeightedIndex {
     ///
     /// let mut sums = [0; 1];
     /// let mut table = WeightedIndex::new(&[1, 4], &mut sums)?;
-    /// assert_eq!(table.update_weights(&mut sums, &[0, 2], &[7, 7]), Err(Refusal::PlaceOutOfRange));
-    /// assert_eq!(table.update_weights(&mut sums, &[0, 1], &[u32::MAX, 0]), Err(Refusal::Overflow));
+    /// assert_eq!(table.update_weights(&mut sums, &[0, 2], &[u32::MAX, 7]), Err(Refusal::PlaceOutOfRange));
+    /// assert_eq!(table.update_weights(&mut sums, &[0, 1], &[u32::MAX, 1]), Err(Refusal::Overflow));
     /// assert_eq!(table.update_weights(&mut sums, &[0, 1], &[0, 0]), Err(Refusal::InsufficientNonZero));
     /// assert_eq!((table.total_weight, sums), (5, [1]));
     /// # Ok::<(), Refusal>(())

@@ -29,7 +29,7 @@ const TABLES: [&[u32]; 14] = [
 ];
 
 /// Changes of the weights 5, 0, 4, 1, 0 with their two lists: accepted ones, and at each refusal alone and before or behind another.
-const CHANGES: [(&[u64], &[u32]); 20] = [
+const CHANGES: [(&[u64], &[u32]); 24] = [
     (&[], &[]),
     (&[0], &[0]),
     (&[1, 4], &[7, 2]),
@@ -48,10 +48,15 @@ const CHANGES: [(&[u64], &[u32]); 20] = [
     // 6
     (&[5], &[2]),
     (&[u64::MAX], &[0]),
-    // 3, also where the items behind it would mend the total, and before a place out of turn
+    // 3, for a total that is one too much, and for one that modulo 2^32 is not
     (&[4], &[u32::MAX - 9]),
     (&[0, 2], &[u32::MAX, 0]),
+    (&[0, 1], &[u32::MAX, u32::MAX]),
+    // a total that passes 2^32 - 1 and comes back, and one at which a later place is refused with 5 or 6
+    (&[0, 2, 3], &[u32::MAX, 0, 0]),
+    (&[0, 1, 2], &[7, u32::MAX - 8, 0]),
     (&[0, 0], &[u32::MAX, 0]),
+    (&[0, 5], &[u32::MAX, 0]),
     // 4
     (&[0, 2, 3], &[0, 0, 0]),
     (&[0, 1, 2, 3, 4], &[0, 0, 0, 0, 0]),

@@ -107,10 +107,17 @@ fn fill(source: &mut Source) -> Filling {
 
 /// A table whose three lists the program reads whole, and mostly entries enough for its sums.
 fn weighing(source: &mut Source) -> Weighing {
-    let mut weights = weights::random::weights(source);
+    let is_heavy = source.below(4) == 0;
+    let mut weights = match is_heavy {
+        true => weights::random::heavy(source),
+        false => weights::random::weights(source),
+    };
     weights.truncate(MOST_ENTRIES / 3);
     let count = weights.len() as u64;
-    let (mut places, mut changes) = weights::random::change(count, source);
+    let (mut places, mut changes) = match is_heavy {
+        true => weights::random::moved(&weights, source),
+        false => weights::random::change(count, source),
+    };
     places.truncate(MOST_ENTRIES / 3);
     changes.truncate(MOST_ENTRIES / 3);
     Weighing {

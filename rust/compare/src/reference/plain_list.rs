@@ -49,9 +49,14 @@ impl PlainList {
         if sums_len < weights.len() - 1 {
             return Err(SLICE_TOO_SHORT);
         }
-        match total(weights) {
+        Self::weighed(weights.to_vec())
+    }
+
+    /// The list of these weights where they make a table: 3, 4.
+    fn weighed(weights: Vec<u32>) -> Result<Self, u64> {
+        match total(&weights) {
             0 => Err(INSUFFICIENT_NON_ZERO),
-            1..=MOST_TOTAL => Ok(Self(weights.to_vec())),
+            1..=MOST_TOTAL => Ok(Self(weights)),
             _ => Err(OVERFLOW),
         }
     }
@@ -86,7 +91,7 @@ impl PlainList {
     ///
     /// # Errors
     ///
-    /// 10, 8, then for each item 5, 6, 3, at the end 4: the first that applies.
+    /// 10, 8, then for each item 5, 6, after all items 3, 4: the first that applies.
     pub fn changed(&self, places: &[u64], weights: &[u32]) -> Result<Self, u64> {
         if weights.len() as u64 > MOST_WEIGHTS {
             return Err(TOO_LONG);
@@ -95,7 +100,6 @@ impl PlainList {
             return Err(SLICE_TOO_SHORT);
         }
         let Self(mut changed) = self.clone();
-        let mut running = total(&changed);
         let mut before = None;
         for (&place, &weight) in places.iter().zip(weights) {
             if before.is_some_and(|before| place <= before) {
@@ -104,18 +108,17 @@ impl PlainList {
             if place >= changed.len() as u64 {
                 return Err(PLACE_OUT_OF_RANGE);
             }
-            let at = place as usize;
-            running = running - u64::from(changed[at]) + u64::from(weight);
-            if running > MOST_TOTAL {
-                return Err(OVERFLOW);
-            }
-            changed[at] = weight;
+            changed[place as usize] = weight;
             before = Some(place);
         }
-        if total(&changed) == 0 {
-            return Err(INSUFFICIENT_NON_ZERO);
-        }
-        Ok(Self(changed))
+        Self::weighed(changed)
+    }
+
+    /// Whether the total passes 2^32 - 1 at an item of a change, before any place is refused. It may come back at a later item.
+    #[must_use]
+    pub fn passes(&self, places: &[u64], weights: &[u32]) -> bool {
+        (1..=places.len().min(weights.len()))
+            .any(|items| self.changed(&places[..items], &weights[..items]) == Err(OVERFLOW))
     }
 
     /// The weights.
@@ -205,9 +208,28 @@ mod tests {
         assert_eq!(number(&[0], &[]), Some(8));
         assert_eq!(number(&[2, 0], &[0, 0]), Some(6));
         assert_eq!(number(&[1, 0, 2], &[0, 0, 0]), Some(5));
-        assert_eq!(number(&[0, 2], &[u32::MAX, 0]), Some(3));
         assert_eq!(number(&[0, 1], &[0, 0]), Some(4));
-        assert_eq!(number(&[0, 1], &[u32::MAX - 4, 0]), None);
-        assert_eq!(number(&[0, 1], &[u32::MAX - 3, 0]), Some(3));
+    }
+
+    /// The total is weighed after all items: it may pass 2^32 - 1 and come back, and a place is refused before it.
+    #[test]
+    fn a_change_is_weighed_at_the_end() {
+        let number = |of: &[u32], places: &[u64], weights: &[u32]| {
+            let list = PlainList::new(of, of.len()).expect("a table");
+            (
+                list.changed(places, weights).err(),
+                list.passes(places, weights),
+            )
+        };
+        let most = u32::MAX;
+        assert_eq!(number(&[0, most], &[0, 1], &[5, most - 5]), (None, true));
+        assert_eq!(number(&[1, 1], &[0, 7], &[most, 1]), (Some(6), true));
+        assert_eq!(number(&[1, 1], &[0, 0], &[most, 1]), (Some(5), true));
+        assert_eq!(number(&[0, 1], &[0], &[most]), (Some(3), true));
+        assert_eq!(number(&[1, 1], &[0, 1], &[most, most]), (Some(3), true));
+        assert_eq!(number(&[1, 4], &[0, 1], &[most - 4, 0]), (None, false));
+        assert_eq!(number(&[1, 4], &[0, 1], &[most, 0]), (None, true));
+        assert_eq!(number(&[1, 4], &[0, 1], &[most, 1]), (Some(3), true));
+        assert_eq!(number(&[1, 4], &[2, 0], &[0, most]), (Some(6), false));
     }
 }

@@ -5,6 +5,7 @@ use rand::distr::weighted::{Error, WeightedIndex};
 use rand::rngs::Xoshiro256PlusPlus;
 
 use crate::draws::{Drawn, counted, rejecting, within};
+use crate::panics::panics;
 use crate::plain_list::{
     INSUFFICIENT_NON_ZERO, MOST_WEIGHTS, NO_WEIGHTS, OVERFLOW, PLACE_OUT_OF_RANGE,
     PLACES_NOT_INCREASING, PlainList, Record,
@@ -127,19 +128,29 @@ impl Held {
     ///
     /// # Errors
     ///
-    /// Those of the plain list. rand takes pairs, so that lists which differ in length cannot be given to it, nor can a total
-    /// above 2^32 - 1, at which it panics or goes on with a wrong one. In all other cases it must err.
+    /// Those of the plain list. rand takes pairs, so that lists which differ in length cannot be given to it, nor can weights that
+    /// sum above 2^32 - 1 when all are changed: it panics there or goes on with a wrong total. In all other cases it must err.
     ///
     /// # Panics
     ///
-    /// If rand does not end the call as the plain list does.
+    /// If rand does not end the call as the plain list does. Where the total passes 2^32 - 1 on the way, that is so in a build without
+    /// overflow checks, whose total comes back with the true one; a build with checks must panic there.
     pub fn update_weights(&mut self, places: &[u64], weights: &[u32]) -> Changed {
         let changed = self.list.changed(places, weights);
         if let Err(TOO_LONG | SLICE_TOO_SHORT | OVERFLOW) = changed {
             return changed.map(|_| ());
         }
+        let is_passing = cfg!(debug_assertions) && self.list.passes(places, weights);
         let places = places.iter().map(|&place| place as usize);
         let pairs: Vec<(usize, &u32)> = places.zip(weights).collect();
+        if is_passing {
+            let mut table = self.rand.clone();
+            let is_panic = panics(|| _ = table.update_weights(&pairs));
+            assert!(is_panic, "change of {:?}: {pairs:?}", self.list);
+            return changed.map(|list| {
+                *self = Self::new(list.weights(), list.weights().len()).expect("a table");
+            });
+        }
         let rand = self.rand.update_weights(&pairs);
         let refusal = changed.as_ref().err().map(|&number| error(number));
         assert_eq!(rand.err(), refusal, "change of {:?}: {pairs:?}", self.list);
@@ -274,7 +285,7 @@ mod tests {
         assert_eq!((ended.number, ended.count, ended.words), (0, 0, 2));
     }
 
-    /// rand's table of these weights, and the pairs of a change by which its total passes 2^32 - 1.
+    /// rand's table of these weights after a change by whose pairs its total passes 2^32 - 1, and what it answers.
     fn overflowing(
         weights: &[u32],
         pairs: &[(usize, &u32)],
@@ -284,21 +295,27 @@ mod tests {
         (table, changed)
     }
 
-    /// A build with checks panics at the item that passes 2^32 - 1, also where a later item would bring the total back.
+    /// A build with checks panics at the item that passes 2^32 - 1, also where a later item would bring the total back or has a place
+    /// that is refused.
     #[cfg(debug_assertions)]
     #[test]
     fn rand_panics_where_a_total_passes_the_greatest() {
         use crate::panics::panics;
 
         let greatest = &u32::MAX;
-        for pairs in [&[(0, greatest)][..], &[(0, greatest), (1, &0)]] {
+        for pairs in [
+            &[(0, greatest)][..],
+            &[(0, greatest), (1, &0)],
+            &[(0, greatest), (0, &0)],
+            &[(0, greatest), (2, &0)],
+        ] {
             assert!(panics(|| drop(overflowing(&[0, 1], pairs))));
         }
         assert!(panics(|| drop(overflowing(&[0, 2], &[(0, greatest)]))));
     }
 
-    /// A build without checks goes on with what is left of the total: it errs where that is 0, it takes a wrong table where it is
-    /// not, and a right one where a later item brings the total back.
+    /// A build without checks goes on modulo 2^32. Where the total stays above 2^32 - 1, it errs if 0 is left of it, and else takes a wrong
+    /// table. Where a later item brings the total back it takes the right one, and a later place is refused as ever.
     #[cfg(not(debug_assertions))]
     #[test]
     fn rand_wraps_where_a_total_passes_the_greatest() {
@@ -311,5 +328,10 @@ mod tests {
         let (table, changed) = overflowing(&[0, 1], &[(0, greatest), (1, &0)]);
         assert_eq!((changed, table.total_weight()), (Ok(()), u32::MAX));
         assert!(table.weights().eq([u32::MAX, 0]));
+        for place in [0, 2] {
+            let (table, changed) = overflowing(&[0, 1], &[(0, greatest), (place, &0)]);
+            assert_eq!(changed, Err(Error::InvalidInput));
+            assert!(table.weights().eq([0, 1]));
+        }
     }
 }

@@ -27,11 +27,12 @@ pub struct Input {
 type Ended = (Changed, Record);
 
 /// Tables of which every small change is tried.
-const SMALL: [&[u32]; 12] = [
+const SMALL: [&[u32]; 13] = [
     &[1],
     &[u32::MAX],
     &[0, 1],
     &[1, 1],
+    &[0, u32::MAX],
     &[1, u32::MAX - 1],
     &[1 << 31, 1],
     &[2, 0, 3],
@@ -44,7 +45,7 @@ const SMALL: [&[u32]; 12] = [
 
 /// What a small change is made of: lists of up to three of these places, and of up to three of these weights.
 const PLACES: [u64; 4] = [0, 1, 2, 3];
-const WEIGHTS: [u32; 4] = [0, 1, 2, u32::MAX];
+const WEIGHTS: [u32; 5] = [0, 1, 2, u32::MAX - 1, u32::MAX];
 const LONGEST: usize = 3;
 
 impl Kind for Change {
@@ -53,6 +54,9 @@ impl Kind for Change {
         faults::OLD_WEIGHT,
         faults::REFUSAL_WRITES,
         faults::PLACES_ORDER,
+        faults::TOTAL_AT_ITEM,
+        faults::TOTAL_MODULO,
+        faults::OVERFLOW_ORDER,
     ];
     const PARTS: usize = 2;
     type Input = Input;
@@ -72,8 +76,17 @@ impl Kind for Change {
     }
 
     fn random(source: &mut Source) -> Input {
-        let table = random::table(source);
-        let (places, weights) = random::change(table.record.count, source);
+        let (table, (places, weights)) = match source.below(4) {
+            0 => {
+                let heavy = random::heavy(source);
+                (Table::of(&heavy), random::moved(&heavy, source))
+            }
+            _ => {
+                let table = random::table(source);
+                let count = table.record.count;
+                (table, random::change(count, source))
+            }
+        };
         Input {
             table,
             places,

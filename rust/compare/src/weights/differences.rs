@@ -36,19 +36,36 @@ fn there_are_lists_that_differ_and_tables_of_no_weights() {
     assert_eq!((PORT.pick)(FROM, none, &[], 0).number, 7);
 }
 
+/// What the port answers to a change of a table of two weights, and the table afterwards, which a refusal leaves as it was.
+fn changed(of: [u32; 2], places: &[u64], weights: &[u32]) -> Result<Table, u64> {
+    let before = Table::of(&of);
+    let Table { record, mut sums } = before.clone();
+    let mut record = record;
+    let changed = (PORT.update_weights)(&mut record, &mut sums, places, weights);
+    let after = Table { record, sums };
+    assert!(changed.is_ok() || after == before, "{after:?}");
+    changed.map(|()| after)
+}
+
 /// What rand does here is in the tests of `reference::weighing`, by the build: one with checks panics, one without goes on.
 #[test]
-fn a_total_that_passes_the_greatest_is_refused() {
-    let changes: [(&[u32], &[u64], &[u32]); 3] = [
-        (&[0, 1], &[0], &[u32::MAX]),
-        (&[0, 2], &[0], &[u32::MAX]),
-        (&[0, 1], &[0, 1], &[u32::MAX, 0]),
-    ];
-    for (of, places, weights) in changes {
-        let Table { record, mut sums } = Table::of(of);
-        let mut after = record;
-        let changed = (PORT.update_weights)(&mut after, &mut sums, places, weights);
-        assert_eq!((changed, after), (Err(3), record));
-        assert_eq!(sums, [0]);
+fn weights_that_sum_above_the_greatest_are_refused() {
+    let most = u32::MAX;
+    assert_eq!(changed([0, 1], &[0], &[most]), Err(3));
+    assert_eq!(changed([0, 2], &[0], &[most]), Err(3));
+    // Modulo 2^32 this would be 2^32 - 2.
+    assert_eq!(changed([1, 1], &[0, 1], &[most, most]), Err(3));
+}
+
+/// As in a build of rand without checks; one with checks panics at the first item of each.
+#[test]
+fn a_total_that_comes_back_is_taken_and_a_place_is_told_before_it() {
+    let most = u32::MAX;
+    for (of, new) in [([0, 1], [most, 0]), ([0, most], [5, most - 5])] {
+        assert_eq!(changed(of, &[0, 1], &new), Ok(Table::of(&new)));
     }
+    assert_eq!(changed([0, 1], &[0, 0], &[most, 0]), Err(5));
+    assert_eq!(changed([0, 1], &[0, 2], &[most, 0]), Err(6));
+    assert_eq!(changed([1, 1], &[0, 0], &[most, 1]), Err(5));
+    assert_eq!(changed([1, 1], &[0, 7], &[most, 1]), Err(6));
 }

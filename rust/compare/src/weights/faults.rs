@@ -2,7 +2,9 @@
 
 use reference::State;
 use reference::draws::{BUDGET_EXHAUSTED, one_too_low, rejecting, within};
-use reference::plain_list::{PLACE_OUT_OF_RANGE, PLACES_NOT_INCREASING, Record};
+use reference::plain_list::{
+    OVERFLOW, PLACE_OUT_OF_RANGE, PLACES_NOT_INCREASING, PlainList, Record,
+};
 use reference::sampling::Ended;
 use reference::weighing::{Changed, Looked, Made};
 use reference::{from_state, state};
@@ -33,6 +35,15 @@ pub const PICK_THRESHOLD: &str = "pick-threshold";
 /// A place out of range at any item, told before one out of order.
 pub const PLACES_ORDER: &str = "places-order";
 
+/// A change that is refused with 3 where its total passes 2^32 - 1 on the way, though it may come back.
+pub const TOTAL_AT_ITEM: &str = "total-at-item";
+
+/// A change whose total is compared modulo 2^32: it is taken where all of it is above 2^32 - 1 and something is left.
+pub const TOTAL_MODULO: &str = "total-modulo";
+
+/// A change of which 3 is told before 5 or 6, where the items before that place are too much.
+pub const OVERFLOW_ORDER: &str = "overflow-order";
+
 /// A lookup that answers the sum of all weights up to the place.
 pub const WEIGHT_SUM: &str = "weight-sum";
 
@@ -51,6 +62,9 @@ pub fn planted(plant: Option<&str>) -> Calls {
         Some(OLD_WEIGHT) => calls.update_weights = old_weight,
         Some(REFUSAL_WRITES) => calls.update_weights = refusal_writes,
         Some(PLACES_ORDER) => calls.update_weights = places_order,
+        Some(TOTAL_AT_ITEM) => calls.update_weights = total_at_item,
+        Some(TOTAL_MODULO) => calls.update_weights = total_modulo,
+        Some(OVERFLOW_ORDER) => calls.update_weights = overflow_order,
         Some(WEIGHT_SUM) => calls.weight = weight_sum,
         Some(WEIGHT_BEYOND) => calls.weight = weight_beyond,
         _ => {}
@@ -148,6 +162,59 @@ fn places_order(table: &mut Record, lent: &mut [u32], places: &[u64], weights: &
     let is_out_of_range = |place: &u64| *place >= table.count;
     match ended {
         Err(PLACES_NOT_INCREASING) if places.iter().any(is_out_of_range) => Err(PLACE_OUT_OF_RANGE),
+        other => other,
+    }
+}
+
+/// Whether the total of a change that has come to its items passes 2^32 - 1 at one of them.
+fn passes(table: Record, lent: &[u32], places: &[u64], weights: &[u32]) -> bool {
+    places.len() == weights.len()
+        && PlainList::of_table(table, lent).is_ok_and(|list| list.passes(places, weights))
+}
+
+/// Fault [`TOTAL_AT_ITEM`].
+fn total_at_item(table: &mut Record, lent: &mut [u32], places: &[u64], weights: &[u32]) -> Changed {
+    if passes(*table, lent, places, weights) {
+        return Err(OVERFLOW);
+    }
+    port::update_weights(table, lent, places, weights)
+}
+
+/// Fault [`TOTAL_MODULO`].
+fn total_modulo(table: &mut Record, lent: &mut [u32], places: &[u64], weights: &[u32]) -> Changed {
+    let ended = port::update_weights(table, lent, places, weights);
+    let Ok(list) = PlainList::of_table(*table, lent) else {
+        return ended;
+    };
+    let mut changed = list.weights().to_vec();
+    for (&place, &weight) in places.iter().zip(weights) {
+        if let Some(entry) = changed.get_mut(place as usize) {
+            *entry = weight;
+        }
+    }
+    let total = changed.iter().copied().fold(0, u32::wrapping_add);
+    if ended != Err(OVERFLOW) || total == 0 {
+        return ended;
+    }
+    let mut sum: u32 = 0;
+    for (entry, weight) in lent.iter_mut().zip(&changed[..changed.len() - 1]) {
+        sum = sum.wrapping_add(*weight);
+        *entry = sum;
+    }
+    table.total_weight = total;
+    Ok(())
+}
+
+/// Fault [`OVERFLOW_ORDER`].
+fn overflow_order(
+    table: &mut Record,
+    lent: &mut [u32],
+    places: &[u64],
+    weights: &[u32],
+) -> Changed {
+    let is_passing = passes(*table, lent, places, weights);
+    match port::update_weights(table, lent, places, weights) {
+        Err(PLACES_NOT_INCREASING | PLACE_OUT_OF_RANGE) if is_passing => Err(OVERFLOW),
         other => other,
     }
 }

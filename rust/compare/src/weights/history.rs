@@ -114,12 +114,13 @@ impl Table for Ported {
 const SMALL: [&[u32]; 4] = [&[1], &[0, 1], &[2, 0, 3], &[1, u32::MAX - 1, 0]];
 
 /// The changes that they are made of, in every order and again and again, up to three.
-const CHANGES: [(&[u64], &[u32]); 9] = [
+const CHANGES: [(&[u64], &[u32]); 10] = [
     (&[], &[]),
     (&[0], &[0]),
     (&[0], &[2]),
     (&[1], &[4]),
     (&[0, 1], &[1, 0]),
+    (&[0, 1], &[u32::MAX - 1, 1]),
     (&[1, 2], &[0, u32::MAX - 1]),
     (&[2, 1], &[1, 1]),
     (&[0, 3], &[5, 5]),
@@ -137,6 +138,9 @@ impl Kind for History {
         faults::REFUSAL_WRITES,
         faults::PICK_WORDS,
         faults::PLACES_ORDER,
+        faults::TOTAL_AT_ITEM,
+        faults::TOTAL_MODULO,
+        faults::OVERFLOW_ORDER,
         faults::WEIGHT_SUM,
         faults::WEIGHT_BEYOND,
     ];
@@ -159,8 +163,10 @@ impl Kind for History {
     }
 
     fn random(source: &mut Source) -> Input {
-        let weights = random::weights(source);
-        let count = weights.len() as u64;
+        let weights = match source.below(4) {
+            0 => random::heavy(source),
+            _ => random::weights(source),
+        };
         let lent_len = match source.below(64) {
             0 => source.below(weights.len() as u32),
             _ => weights.len() as u32 - 1 + source.below(4),
@@ -168,7 +174,16 @@ impl Kind for History {
         // Small ones too, or a call that reads an entry past the sums would find it above all that is drawn.
         let lent = (0..lent_len).map(|_| random::weight(source)).collect();
         let changes = 1 + source.below(12);
-        let steps = (0..changes).flat_map(|_| steps(count, source)).collect();
+        let mut steps = Vec::new();
+        let mut list = PlainList::new(&weights, lent_len as usize).ok();
+        for _ in 0..changes {
+            let now = list.as_ref().map_or(&weights[..], PlainList::weights);
+            let more = self::steps(now, source);
+            if let Step::Change { places, weights } = &more[0] {
+                list = list.map(|list| list.changed(places, weights).unwrap_or(list));
+            }
+            steps.extend(more);
+        }
         Input {
             weights,
             lent,
@@ -295,9 +310,13 @@ fn short(weights: &[u32], number: u64, changes: &[(&[u64], &[u32])]) -> Input {
     }
 }
 
-/// A random change, and up to two picks and two lookups after it.
-fn steps(count: u64, source: &mut Source) -> Vec<Step> {
-    let (places, weights) = random::change(count, source);
+/// A random change of these weights, and up to two picks and two lookups after it.
+fn steps(weights: &[u32], source: &mut Source) -> Vec<Step> {
+    let count = weights.len() as u64;
+    let (places, weights) = match source.below(4) {
+        0 => random::moved(weights, source),
+        _ => random::change(count, source),
+    };
     let mut steps = vec![Step::Change { places, weights }];
     for _ in 0..source.below(3) {
         let budget = random::budget(source);

@@ -83,6 +83,13 @@ pub fn weights(source: &mut Source) -> Vec<u32> {
     }
 }
 
+/// Weights that add up to the greatest total, or to one or two less.
+pub fn heavy(source: &mut Source) -> Vec<u32> {
+    let total = u32::MAX - source.below(3);
+    let count = count(source);
+    adding_to(total.into(), count, source)
+}
+
 /// A whole table, most often with entries past its sums.
 pub fn whole(source: &mut Source) -> Table {
     let weights = weights(source);
@@ -149,6 +156,32 @@ pub fn change(count: u64, source: &mut Source) -> (Vec<u64>, Vec<u32>) {
         _ => {}
     }
     (places, weights)
+}
+
+/// The two lists of a change of these weights that moves weight from place to place, so that what they add up to passes 2^32 - 1 on the
+/// way and comes back, or ends near it on either side. Now and then the last place is refused.
+pub fn moved(weights: &[u32], source: &mut Source) -> (Vec<u64>, Vec<u32>) {
+    let count = weights.len() as u64;
+    let items = 1 + source.below(5);
+    let mut places: Vec<u64> = (0..items).map(|_| source.even() % count).collect();
+    places.sort_unstable();
+    places.dedup();
+    let stay = (0..).zip(weights).filter(|(at, _)| !places.contains(at));
+    let stay: u64 = stay.map(|(_, &weight)| u64::from(weight)).sum();
+    let total = match source.below(2) {
+        0 => (1 << 32) - u64::from(source.below(4)),
+        _ => total(source),
+    };
+    let mut new = adding_to(total.saturating_sub(stay), places.len(), source);
+    let at = source.below(new.len() as u32) as usize;
+    new[at] = new[at].saturating_add(source.below(3));
+    match source.below(8) {
+        0 => places.push(places[0]),
+        1 => places.push(count),
+        _ => return (places, new),
+    }
+    new.push(weight(source));
+    (places, new)
 }
 
 /// A budget: enough, or few words.

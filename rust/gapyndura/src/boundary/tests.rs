@@ -143,7 +143,7 @@ fn a_refused_new_table_writes_no_record_and_no_sum() {
 #[test]
 fn a_refused_change_writes_no_record_and_no_sum() {
     let whole = [3, 5];
-    let refused: [(u32, Table, &[u64], &[u32]); 10] = [
+    let refused: [(u32, Table, &[u64], &[u32]); 13] = [
         (10, [(1 << 32) - 1, 5], &[], &[]),
         (7, [(1 << 32) - 2, 5], &[], &[]),
         (7, [3, 1], &[0], &[]),
@@ -152,7 +152,10 @@ fn a_refused_change_writes_no_record_and_no_sum() {
         (8, whole, &[2], &[1, 1]),
         (5, whole, &[0, 0], &[1, 1]),
         (6, whole, &[0, 3], &[1, 1]),
+        (5, whole, &[0, 0], &[u32::MAX, 1]),
+        (6, whole, &[0, 3], &[u32::MAX, 1]),
         (3, whole, &[0, 1], &[1, u32::MAX]),
+        (3, whole, &[0, 1], &[u32::MAX, u32::MAX]),
         (4, whole, &[0, 2], &[0, 0]),
     ];
     for (number, table, places, weights) in refused {
@@ -163,6 +166,10 @@ fn a_refused_change_writes_no_record_and_no_sum() {
     assert_eq!(after, (0, [3, 9], [2, 6, 9]));
     let after = update(whole, [2, 2, 9], &[], &[]);
     assert_eq!(after, (0, whole, [2, 2, 9]));
+    // The total passes 2^32 - 1 at the first item, and the second brings it back.
+    let most = u32::MAX;
+    let after = update(whole, [2, 2, 9], &[0, 2], &[most, 0]);
+    assert_eq!(after, (0, [3, most.into()], [most, most, 9]));
 }
 
 #[test]
