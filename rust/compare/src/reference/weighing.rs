@@ -285,6 +285,33 @@ mod tests {
         assert_eq!((ended.number, ended.count, ended.words), (0, 0, 2));
     }
 
+    /// Changes of up to two items, with totals on both sides of 2^32 - 1 on the way and at the end. `Held` asks rand: a build without
+    /// checks must end each as the plain list does, and one with checks must panic where the total passes, also if it comes back.
+    #[test]
+    fn small_changes_end_as_on_the_plain_list_or_panic_by_the_build() {
+        let weights = [0, 1, 2, u32::MAX - 1, u32::MAX];
+        let items = (0..3).flat_map(|place| weights.map(|weight| (place, weight)));
+        let items: Vec<(u64, u32)> = items.collect();
+        let mut changes: Vec<Vec<(u64, u32)>> = items.iter().map(|&item| vec![item]).collect();
+        changes.extend(
+            items
+                .iter()
+                .flat_map(|&a| items.iter().map(move |&b| vec![a, b])),
+        );
+        let mut ends = [0; 7];
+        for (a, b) in weights.iter().flat_map(|&a| weights.map(|b| (a, b))) {
+            let Ok(held) = Held::new(&[a, b], 1) else {
+                continue;
+            };
+            for change in &changes {
+                let (places, weights): (Vec<u64>, Vec<u32>) = change.iter().copied().unzip();
+                let ended = held.clone().update_weights(&places, &weights);
+                ends[ended.err().unwrap_or(0) as usize] += 1;
+            }
+        }
+        assert!([0, 3, 4, 5, 6].iter().all(|&end| ends[end] > 0), "{ends:?}");
+    }
+
     /// rand's table of these weights after a change by whose pairs its total passes 2^32 - 1, and what it answers.
     fn overflowing(
         weights: &[u32],
