@@ -202,3 +202,33 @@ fn refusals(table: &Table, visit: &mut impl FnMut(Input)) {
         }
     }
 }
+
+#[cfg(test)]
+mod tests {
+    use reference::plain_list::PlainList;
+
+    use super::{Change, Input, Kind};
+    use crate::inputs::Source;
+
+    /// Totals pass 2^32 - 1 on the way in many random changes, which then end in each way they can: taken, or refused with 3, 5 or 6.
+    #[test]
+    fn random_changes_pass_the_greatest_total_and_come_back() {
+        let mut source = Source::new(1);
+        let mut ends = [0; 14];
+        for _ in 0..5000 {
+            let Input {
+                table,
+                places,
+                weights,
+            } = Change::random(&mut source);
+            let Ok(list) = PlainList::of_table(table.record, &table.sums) else {
+                continue;
+            };
+            if list.passes(&places, &weights) {
+                let changed = list.changed(&places, &weights);
+                ends[changed.err().unwrap_or(0) as usize] += 1;
+            }
+        }
+        assert!([0, 3, 5, 6].iter().all(|&end| ends[end] > 50), "{ends:?}");
+    }
+}
