@@ -52,10 +52,10 @@ placed-end : (o : Option Refusal) (n m : ℕ) → done (m ∷ []) ≡ decided o 
 placed-end none n m e = (refl, sym (ap (λ (a : Answer). getD (a .values) 0 0) e))
 placed-end (some y) n m e = let z : _≡_ {A = ℕ} 1 0 = ap (λ (a : Answer). length (a .values)) e in absurd (omega arith)
 
-pub items-placed-at : (ws ps vs : List ℕ) (r : Checked) (m : ℕ) → answerOfChecked r ≡ checkOf ws ps vs → r ≡ Total m
+pub all-placed : (ws ps vs : List ℕ) (r : Checked) (m : ℕ) → answerOfChecked r ≡ checkOf ws ps vs → r ≡ Total m
     → (placesRefusal (length ws) 0 ps ≡ none) × (total (replaced ws ps vs) ≡ m)
 unfolding checkOf
-items-placed-at ws ps vs r m e q = placed-end (placesRefusal (length ws) 0 ps) (total (replaced ws ps vs)) m (sym (ap answerOfChecked q) ∙ e)
+all-placed ws ps vs r m e q = placed-end (placesRefusal (length ws) 0 ps) (total (replaced ws ps vs)) m (sym (ap answerOfChecked q) ∙ e)
 
 -- ---- the call
 
@@ -89,17 +89,19 @@ module _ (t : WeightedIndex) (s ps vs : List ℕ) where
         too-short ne = goes ∙ rw (lists-differ held ps vs ne)
 
         module _ (e : length ps ≡ length vs) where
+          pub by-items : updateOf t s ps vs ≡ settled (itemsRefusal held ps vs) new s
+          by-items = goes ∙ rw (lists-agree held ps vs e)
+
           pub item-refused : (r : Checked) (why : Refusal) → answerOfChecked r ≡ checkOf held ps vs → r ≡ Refused why → updateOf t s ps vs ≡ refuses why s
           unfolding checkOf itemsRefusal
           item-refused r why f q =
-              goes
-              ∙ rw (lists-agree held ps vs e)
-              (refused-end (placesRefusal (length held) 0 ps) (weightsRefusal new) (total new) why new s (sym (ap answerOfChecked q) ∙ f))
+              by-items
+              ∙ refused-end (placesRefusal (length held) 0 ps) (weightsRefusal new) (total new) why new s (sym (ap answerOfChecked q) ∙ f)
 
           -- no place is refused, and the changed weights add up to m
           module _ (m : ℕ) (d : placesRefusal (length held) 0 ps ≡ none) (n : total new ≡ m) where
             weighs : updateOf t s ps vs ≡ settled (weightsRefusal new) new s
-            weighs = goes ∙ rw (lists-agree held ps vs e ∙ items-placed held ps vs d)
+            weighs = by-items ∙ rw (items-placed held ps vs d)
 
             pub overflowing : mostTotal < m → updateOf t s ps vs ≡ refuses Overflow s
             overflowing o = weighs ∙ rw (weights-overflow new (omega (arith, n)))

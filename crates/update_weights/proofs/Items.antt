@@ -11,9 +11,9 @@ use lib.ListN.{length, getD, set, length-set}
 use borrow.Author.Tests.{lt-ltb, le-ltb, le-leb, lt-leb, ltb-true, ltb-false, leb-true, leb-false}
 use Rattle.refusal.specs.declared.Refusal.{Refusal}
 use Rattle.refusal.specs.declared.Refusal.the-variants.{Overflow, InsufficientNonZero, PlacesNotIncreasing, PlaceOutOfRange}
-use Rattle.weighted_index.specs.Weights.{mostTotal, total, overflows, allZero}
+use Rattle.weighted_index.specs.Weights.{mostTotal, total}
 use Rattle.update_weights.specs.Change.{replaced, placesRefusal, weightsRefusal, itemsRefusal}
-use Rattle.weighted_index.proofs.Totals.{too-much, not-too-much, all-zero, not-all-zero, small-total, some-total}
+use Rattle.weighted_index.proofs.Totals.{too-much, not-too-much, all-zero, not-all-zero}
 
 pub refused-none : {why : Refusal} → _≡_ {A = Option Refusal} (some why) none → ⊥
 refused-none e = let z : _≡_ {A = ℕ} 0 1 = cc in omega arith

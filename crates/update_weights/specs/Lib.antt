@@ -1,2 +1,3 @@
 pub mod Change
+pub mod Order
 pub mod History

@@ -11,7 +11,7 @@ use Rattle.weighted_index.specs.Weights.{total}
 use Rattle.weighted_index.specs.Tables.{heldWeights, brokenTable}
 use Rattle.update_weights.specs.Change.{replaced, placesRefusal, Rewritable}
 use Rattle.weighted_index.proofs.Totals.{not-too-much}
-use Rattle.update_weights.proofs.ChangeCases.{too-long, list-too-long, invalid, too-short, item-refused, items-placed-at, overflowing, all-zero, changed}
+use Rattle.update_weights.proofs.ChangeCases.{too-long, list-too-long, invalid, too-short, item-refused, all-placed, overflowing, all-zero, changed}
 use borrow.Author.Needs.{needs}
 use Rattle.update_weights.proofs.update_weights.Statement.{statement}
 use Rattle.update_weights.proofs.update_weights.Tie as tie
@@ -138,7 +138,7 @@ placed : (u : tie.After-known-told2) → let s = start (long (agree (looked u) .
 placed u =
     let k = looked u .check-items in
     let s = start (long (agree (looked u) .before)) in
-    items-placed-at (held s) (ps s) (vs s) (k .result) (all u) (k .ensures) (u .before .checked2 .given .1)
+    all-placed (held s) (ps s) (vs s) (k .result) (all u) (k .ensures) (u .before .checked2 .given .1)
 
 refused-requires-6 : tie.Need-refused-requires-6
 refused-requires-6 c κs = search needs
