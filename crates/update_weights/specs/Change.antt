@@ -25,7 +25,7 @@ replaced ws [] vs = ws
 replaced ws (p ∷ ps) [] = ws
 replaced ws (p ∷ ps) (v ∷ vs) = replaced (set ws p v) ps vs
 
--- the first refusal of the places in turn: of one below least, which is not above the place before it, and of one that is not below the count
+-- the first refusal of the places in turn: 5 for one that is below least, so not above the place before it, 6 for one that is not below the count
 unfoldable pub placesRefusal : (count least : ℕ) (ps : List ℕ) → Option Refusal
 placesRefusal count least [] = none
 placesRefusal count least (p ∷ ps) =
