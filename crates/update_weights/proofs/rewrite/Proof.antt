@@ -88,21 +88,28 @@ loop-holds c = λ n d.
 
 -- ---- in the loop
 
+abbrev start : tie.At-loop Inv-loop μ-loop → tie.Start Inv-loop μ-loop
+start l = l .before .before .before .before .before
+
+-- where the place's old sum is read
+abbrev at : tie.After-row-known Inv-loop μ-loop → tie.At-loop Inv-loop μ-loop
+at c = c .before .before .before
+
 -- its state, at the table's own total
-here : (c : tie.At-loop Inv-loop μ-loop) → let s = c .before .before .before .before .before in
+here : (c : tie.At-loop Inv-loop μ-loop) → let s = start c in
     Rewriting (all s) (sums s) (ps s) (vs s) (end s) (c .loop .cumulative-weights) (c .loop .before) (c .loop .acc) (c .loop .j) (c .loop .i)
-here c = let s = c .before .before .before .before .before in c .loop .inv (all s) (ready s)
+here c = let s = start c in c .loop .inv (all s) (ready s)
 
 mul-sum : tie.Need-mul-sum Inv-loop μ-loop
-mul-sum c = omega (arith, here (c .before) .goes .long, ready (c .before .before .before .before .before .before) .room)
+mul-sum c = omega (arith, here (c .before) .goes .long, ready (start (c .before)) .room)
 
 slice-read-sum : tie.Need-slice-read-sum Inv-loop μ-loop
-slice-read-sum c = omega (arith, here (c .before .before) .goes .long, ready (c .before .before .before .before .before .before .before) .room)
+slice-read-sum c = omega (arith, here (c .before .before) .goes .long, ready (start (c .before .before)) .room)
 
 sub-w : tie.Need-sub-w Inv-loop μ-loop
 sub-w c =
-    let l = c .before .before .before in
-    let s = l .before .before .before .before .before in
+    let l = at c in
+    let s = start l in
     rising-sum (all s) (sums s) (ps s) (vs s) (end s) (ready s) (l .loop .cumulative-weights) (l .loop .before) (l .loop .acc) (l .loop .j) (l .loop .i) (here l) (c .before .before .loop-test .taken)
 
 mul-if4 : tie.Need-mul-if4 Inv-loop μ-loop
@@ -112,21 +119,21 @@ shared-slice-read-if4 : tie.Need-shared-slice-read-if4 Inv-loop μ-loop
 shared-slice-read-if4 c = search needs
 
 mul-w : tie.Need-mul-w Inv-loop μ-loop
-mul-w c = omega (arith, c .before .before .before .before .before .before .before .before .before .before .before .pre .same)
+mul-w c = omega (arith, start (at (c .before .before .before)) .pre .same)
 
 shared-slice-read-w : tie.Need-shared-slice-read-w Inv-loop μ-loop
-shared-slice-read-w c = omega (arith, c .before .before .before .before .before .before .before .before .before .before .before .before .pre .same)
+shared-slice-read-w c = omega (arith, start (at (c .before .before .before .before)) .pre .same)
 
 add-j : tie.Need-add-j Inv-loop μ-loop
 add-j c = search needs
 
 -- the next weight and the items used after it, where the arms meet
-met : (c : tie.Joined3 Inv-loop μ-loop) (n : ℕ) → let l = c .before .before .before .before in let s = l .before .before .before .before .before in
+met : (c : tie.Joined3 Inv-loop μ-loop) (n : ℕ) → let l = at (c .before) in let s = start l in
     (d : Ready n (sums s) (ps s) (vs s) (end s))
     → Next n (sums s) (ps s) (vs s) (end s) d (l .loop .cumulative-weights) (l .loop .before) (l .loop .acc) (l .loop .j) (l .loop .i) (l .loop .inv n d) (c .before .before .before .loop-test .taken) (c .if3 .w) (c .if3 .j)
 met c n d =
-    let l = c .before .before .before .before in
-    let s = l .before .before .before .before .before in
+    let l = at (c .before) in
+    let s = start l in
     let h = c .before .before .before .loop-test .taken in
     let Goal : ℕ → ℕ → Type 0 = Next n (sums s) (ps s) (vs s) (end s) d (l .loop .cumulative-weights) (l .loop .before) (l .loop .acc) (l .loop .j) (l .loop .i) (l .loop .inv n d) h in
     ⊎-elim
@@ -143,18 +150,18 @@ met c n d =
 add-acc : tie.Need-add-acc Inv-loop μ-loop
 unfolding here
 add-acc c =
-    let l = c .before .before .before .before .before .before in
-    let s = l .before .before .before .before .before in
+    let l = at (c .before .before .before) in
+    let s = start l in
     let f = sum-fits (all s) (sums s) (ps s) (vs s) (end s) (ready s) (l .loop .cumulative-weights) (l .loop .before) (l .loop .acc) (l .loop .j) (l .loop .i) (here l) (c .before .before .before .before .before .loop-test .taken) (c .before .before .if3 .w) (c .before .before .if3 .j) (met (c .before .before) (all s) (ready s)) in
     omega arith
 
 mul-cumulative-weights : tie.Need-mul-cumulative-weights Inv-loop μ-loop
 mul-cumulative-weights c =
-    let l = c .before .before .before .before .before .before in omega (arith, here l .goes .long, ready (l .before .before .before .before .before) .room)
+    let l = at (c .before .before .before) in omega (arith, here l .goes .long, ready (start l) .room)
 
 slice-write-cumulative-weights : tie.Need-slice-write-cumulative-weights Inv-loop μ-loop
 slice-write-cumulative-weights c =
-    let l = c .before .before .before .before .before .before in omega (arith, here l .goes .long, ready (l .before .before .before .before .before) .room)
+    let l = at (c .before .before .before) in omega (arith, here l .goes .long, ready (start l) .room)
 
 add-i : tie.Need-add-i Inv-loop μ-loop
 add-i c = search needs
@@ -164,8 +171,8 @@ loop-less c = search needs
 
 loop-again : tie.Need-loop-again Inv-loop μ-loop
 loop-again c = λ n d.
-    let l = c .before .before .before .before .before .before in
-    let s = l .before .before .before .before .before in
+    let l = at (c .before .before .before) in
+    let s = start l in
     turn n (sums s) (ps s) (vs s) (end s) d (l .loop .cumulative-weights) (l .loop .before) (l .loop .acc) (l .loop .j) (l .loop .i) (l .loop .inv n d) (c .before .before .before .before .before .loop-test .taken) (c .before .before .if3 .w) (c .before .before .if3 .j) (met (c .before .before) n d)
 
 -- ---- after the loop
@@ -177,7 +184,7 @@ returns-2 : tie.Need-returns-2 Inv-loop μ-loop
 unfolding heldWeights
 returns-2 c =
     let l = c .before in
-    let s = l .before .before .before .before .before in
+    let s = start l in
     finish (all s) (sums s) (ps s) (vs s) (end s) (ready s) (l .loop .cumulative-weights) (l .loop .before) (l .loop .acc) (l .loop .j) (l .loop .i) (here l) (c .loop-test .left)
 
 pub rewrite-spec : {M : Type 1} → statement M
