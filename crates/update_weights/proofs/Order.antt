@@ -1,14 +1,17 @@
--- Each case of a change, from the laws of its definition.
+-- What a change leaves, and each case of it, from the laws of its definition.
 -- Assumes nothing.
 use mathlib.Core.Path.{_≡_, refl, sym, ap, _∙_}
 use mathlib.Core.Bool.{Bool, true, false, cond}
 use mathlib.Core.List.{List, [], _∷_, _++_}
 use mathlib.Core.Option.{Option, none, some}
-use Prim.Native.Nat.{ℕ, suc, _≤_, _<_}
+use Prim.Native.Nat.{ℕ, zero, suc, _≤_, _<_}
 use native.Mathlib.Omega.{arith}
-use lib.Dec.{ltb, leb}
-use lib.ListN.{length}
-use borrow.Author.Tests.{ltb-true}
+use lib.Dec.{ltb, leb, eqb}
+use lib.ListN.{length, getD, set, length-set}
+use lib.Seq.{getD-set-same, getD-set-other}
+use borrow.Author.Tests.{ltb-true, ne-eqb, eqb-false}
+use Rattle.counting.specs.Lists.{member}
+use Rattle.counting.proofs.Tests.{or-false, false-or}
 use Rattle.refusal.specs.Answer.{decided}
 use Rattle.refusal.specs.declared.Refusal.{Refusal}
 use Rattle.refusal.specs.declared.Refusal.the-variants.{Overflow, InsufficientNonZero, PlacesNotIncreasing, PlaceOutOfRange}
@@ -16,12 +19,40 @@ use Rattle.weighted_index.specs.Weights.{mostTotal, total, overflows, allZero}
 use Rattle.weighted_index.specs.Tables.{heldWeights}
 use Rattle.weighted_index.specs.Answers.{Making, refuses}
 use Rattle.weighted_index.specs.New.{makes}
-use Rattle.update_weights.specs.Change.{placesRefusal, weightsRefusal, itemsRefusal, settled, updateOf}
-use Rattle.update_weights.specs.Order.{Listed, Placed, next, after, ChangeOrder}
+use Rattle.update_weights.specs.Change.{replaced, placesRefusal, weightsRefusal, itemsRefusal, settled, updateOf}
+use Rattle.update_weights.specs.Order.{Listed, Placed, next, after, Replacing, ChangeOrder}
 use Rattle.weighted_index.specs.declared.answer.WeightedIndex.{WeightedIndex}
 use Rattle.weighted_index.proofs.Whole.{whole, held-length}
-use Rattle.update_weights.proofs.Items.{place-order, place-range, place-goes, passed, no-places, weights-overflow, weights-zero, weights-accepted, items-refused, items-placed}
+use Rattle.update_weights.proofs.Items.{place-order, place-range, place-goes, passed, no-places, weights-overflow, weights-zero, weights-accepted, items-refused, items-placed, replaced-length}
 use Rattle.update_weights.proofs.ChangeCases.{by-items}
+
+-- ---- the weights that are left
+
+others : (ws ps vs : List ℕ) (k : ℕ) → member k ps ≡ false → getD (replaced ws ps vs) k 0 ≡ getD ws k 0
+unfolding replaced
+others ws [] vs k m = refl
+others ws (p ∷ ps) [] k m = refl
+others ws (p ∷ ps) (v ∷ vs) k m =
+    let u = or-false (eqb k p) (member k ps) m in
+    others (set ws p v) ps vs k (u .1) ∙ getD-set-other ws p k v 0 (eqb-false k p (u .0))
+
+-- a place before them is none of them
+below-placed : (count least k : ℕ) (ps : List ℕ) → Placed count least ps → k < least → member k ps ≡ false
+below-placed count least k [] h l = refl
+below-placed count least k (p ∷ ps) h l =
+    false-or (eqb k p) (member k ps) (ne-eqb k p (λ e. omega (arith, h .0))) (below-placed count (suc p) k ps (h .2) (omega (arith, h .0)))
+
+named : (count least : ℕ) (ws ps vs : List ℕ) (j : ℕ) → length ws ≡ count → length ps ≡ length vs → Placed count least ps → j < length ps
+    → getD (replaced ws ps vs) (getD ps j 0) 0 ≡ getD vs j 0
+unfolding replaced
+named count least ws [] vs j n e h l = absurd (omega arith)
+named count least ws (p ∷ ps) [] j n e h l = absurd (omega arith)
+named count least ws (p ∷ ps) (v ∷ vs) zero n e h l =
+    others (set ws p v) ps vs p (below-placed count (suc p) p ps (h .2) (omega arith)) ∙ getD-set-same ws p v 0 (omega (arith, h .1))
+named count least ws (p ∷ ps) (v ∷ vs) (suc j) n e h l = named count (suc p) (set ws p v) ps vs j (length-set ws p v ∙ n) (omega arith) (h .2) (omega arith)
+
+pub replacing : Replacing
+replacing = record { named = λ ws ps vs j e h l. named (length ws) 0 ws ps vs j refl e h l; others = others; count = replaced-length }
 
 -- ---- the places
 

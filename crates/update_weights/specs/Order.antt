@@ -1,10 +1,11 @@
--- What a change is refused for, and in which order: each case of it, in plain words.
+-- What a change leaves, what it is refused for, and in which order: each case of it, in plain words.
 use mathlib.Core.Path.{_≡_}
 use mathlib.Core.Bool.{false}
 use mathlib.Core.List.{List, [], _∷_, _++_}
 use Prim.Native.Nat.{ℕ, suc, _≤_, _<_}
-use lib.ListN.{length}
+use lib.ListN.{length, getD}
 use Rattle.refusal.specs.declared.Refusal.the-variants.{Overflow, InsufficientNonZero, PlacesNotIncreasing, PlaceOutOfRange}
+use Rattle.counting.specs.Lists.{member}
 use Rattle.weighted_index.specs.Weights.{mostWeights, mostTotal, total}
 use Rattle.weighted_index.specs.Tables.{brokenTable, heldWeights}
 use Rattle.weighted_index.specs.Answers.{refuses}
@@ -32,6 +33,16 @@ next least (p ∷ ps) = next (suc p) ps
 -- the weights after the whole list
 abbrev pub after : WeightedIndex → (s ps vs : List ℕ) → List ℕ
 after t s ps vs = replaced (heldWeights t s) ps vs
+
+-- the weights that a change leaves
+pub record Replacing : Type 0 where
+  -- each place that is named has its weight of the list,
+  pub named : (ws ps vs : List ℕ) (j : ℕ) → length ps ≡ length vs → Placed (length ws) 0 ps → j < length ps
+      → getD (replaced ws ps vs) (getD ps j 0) 0 ≡ getD vs j 0
+  -- every other keeps its own,
+  pub others : (ws ps vs : List ℕ) (place : ℕ) → member place ps ≡ false → getD (replaced ws ps vs) place 0 ≡ getD ws place 0
+  -- and there are as many as before.
+  pub count : (ws ps vs : List ℕ) → length (replaced ws ps vs) ≡ length ws
 
 -- how a change ends that comes to its items
 pub record ChangeOrder : Type 0 where
