@@ -1,6 +1,7 @@
 -- What a change leaves, and each case of it, from the laws of its definition.
 -- Assumes nothing.
 use mathlib.Core.Path.{_≡_, refl, sym, ap, _∙_}
+use mathlib.Core.Logic.{_⊎_, ⊎-elim}
 use mathlib.Core.Bool.{Bool, true, false, cond}
 use mathlib.Core.List.{List, [], _∷_, _++_}
 use mathlib.Core.Option.{Option, none, some}
@@ -9,14 +10,15 @@ use native.Mathlib.Omega.{arith}
 use lib.Dec.{ltb, leb, eqb}
 use lib.ListN.{length, getD, set, length-set}
 use lib.Seq.{getD-set-same, getD-set-other}
-use borrow.Author.Tests.{ltb-true, ne-eqb, eqb-false}
+use borrow.Author.Tests.{ltb-true, ltb-false, ne-eqb, eqb-true, eqb-false}
 use Rattle.counting.specs.Lists.{member}
 use Rattle.counting.proofs.Tests.{or-false, false-or}
 use Rattle.refusal.specs.Answer.{decided}
+use Rattle.refusal.specs.Number.{number}
 use Rattle.refusal.specs.declared.Refusal.{Refusal}
-use Rattle.refusal.specs.declared.Refusal.the-variants.{Overflow, InsufficientNonZero, PlacesNotIncreasing, PlaceOutOfRange}
-use Rattle.weighted_index.specs.Weights.{mostTotal, total, overflows, allZero}
-use Rattle.weighted_index.specs.Tables.{heldWeights}
+use Rattle.refusal.specs.declared.Refusal.the-variants.{Overflow, InsufficientNonZero, PlacesNotIncreasing, PlaceOutOfRange, InvalidTable, SliceTooShort, TooLong}
+use Rattle.weighted_index.specs.Weights.{mostWeights, mostTotal, total, overflows, allZero}
+use Rattle.weighted_index.specs.Tables.{heldWeights, brokenTable}
 use Rattle.weighted_index.specs.Answers.{Making, refuses}
 use Rattle.weighted_index.specs.New.{makes}
 use Rattle.update_weights.specs.Change.{replaced, placesRefusal, weightsRefusal, itemsRefusal, settled, updateOf}
@@ -24,7 +26,7 @@ use Rattle.update_weights.specs.Order.{Listed, Placed, next, after, Repl
 use Rattle.weighted_index.specs.declared.answer.WeightedIndex.{WeightedIndex}
 use Rattle.weighted_index.proofs.Whole.{whole, held-length}
 use Rattle.update_weights.proofs.Items.{place-order, place-range, place-goes, passed, no-places, weights-overflow, weights-zero, weights-accepted, items-refused, items-placed, replaced-length}
-use Rattle.update_weights.proofs.ChangeCases.{by-items}
+use Rattle.update_weights.proofs.ChangeCases.{too-long, list-too-long, invalid, too-short, by-items}
 
 -- ---- the weights that are left
 
@@ -107,6 +109,41 @@ settled-number (some why) ws s = refl
 
 -- ---- the call
 
+-- a change that answers 3 has come to its items
+module _ (t : WeightedIndex) (s ps vs : List ℕ) (n : updateOf t s ps vs .answer .number ≡ 3) where
+  other : (why : Refusal) → (number why ≡ 3 → ⊥) → updateOf t s ps vs ≡ refuses why s → Listed t s ps vs
+  unfolding refuses
+  other why not e = absurd (not (sym (ap (λ (m : Making). m .answer .number) e) ∙ n))
+
+  listed : Listed t s ps vs
+  listed = first (ltb mostWeights (t .count)) refl
+    where
+      fourth : t .count ≤ mostWeights → length vs ≤ mostWeights → brokenTable t s ≡ false → (b : Bool) → eqb (length ps) (length vs) ≡ b → Listed t s ps vs
+      fourth h k w true q = record { few = h; short = k; whole = w; same = eqb-true (length ps) (length vs) q }
+      fourth h k w false q = other SliceTooShort (λ z. omega arith) (too-short t s ps vs h k w (eqb-false (length ps) (length vs) q))
+
+      third : t .count ≤ mostWeights → length vs ≤ mostWeights → (b : Bool) → brokenTable t s ≡ b → Listed t s ps vs
+      third h k true q = other InvalidTable (λ z. omega arith) (invalid t s ps vs h k q)
+      third h k false q = fourth h k q (eqb (length ps) (length vs)) refl
+
+      second : t .count ≤ mostWeights → (b : Bool) → ltb mostWeights (length vs) ≡ b → Listed t s ps vs
+      second h true q = other TooLong (λ z. omega arith) (list-too-long t s ps vs h (ltb-true mostWeights (length vs) q))
+      second h false q = third h (ltb-false mostWeights (length vs) q) (brokenTable t s) refl
+
+      first : (b : Bool) → ltb mostWeights (t .count) ≡ b → Listed t s ps vs
+      first true q = other TooLong (λ z. omega arith) (too-long t s ps vs (ltb-true mostWeights (t .count) q))
+      first false q = second (ltb-false mostWeights (t .count) q) (ltb mostWeights (length vs)) refl
+
+-- whichever of the two is too long
+either-long : (t : WeightedIndex) (s ps vs : List ℕ) → (mostWeights < t .count) ⊎ (mostWeights < length vs) → updateOf t s ps vs ≡ refuses TooLong s
+either-long t s ps vs u = go (ltb mostWeights (t .count)) refl
+  where
+    go : (b : Bool) → ltb mostWeights (t .count) ≡ b → updateOf t s ps vs ≡ refuses TooLong s
+    go true q = too-long t s ps vs (ltb-true mostWeights (t .count) q)
+    go false q =
+        let h = ltb-false mostWeights (t .count) q in
+        list-too-long t s ps vs h (⊎-elim (λ (l : mostWeights < t .count). absurd (omega arith)) (λ (l : mostWeights < length vs). l) u)
+
 module _ (t : WeightedIndex) (s ps vs : List ℕ) (d : Listed t s ps vs) where
   abbrev held : List ℕ
   held = heldWeights t s
@@ -140,10 +177,13 @@ module _ (t : WeightedIndex) (s ps vs : List ℕ) (d : Listed t s ps vs) where
 pub change-order : ChangeOrder
 change-order =
     record {
+      long = either-long;
+      broken = invalid;
+      differ = too-short;
       order = λ t s qs p ps vs d h k. refused t s (qs ++ (p ∷ ps)) vs d PlacesNotIncreasing (order-at (t .count) 0 qs p ps h k);
       range = λ t s qs p ps vs d h k l. refused t s (qs ++ (p ∷ ps)) vs d PlaceOutOfRange (range-at (t .count) 0 qs p ps h k l);
       overflow = λ t s ps vs d h o. weighed t s ps vs d (placed-none (t .count) 0 ps h) ∙ rw (weights-overflow (after t s ps vs) o);
       zero = λ t s ps vs d h z. weighed t s ps vs d (placed-none (t .count) 0 ps h) ∙ rw (weights-zero (after t s ps vs) z);
       taken = λ t s ps vs d h z o. weighed t s ps vs d (placed-none (t .count) 0 ps h) ∙ rw (weights-accepted (after t s ps vs) z o);
-      only = only;
+      only = λ t s ps vs n. let d = listed t s ps vs n in let r = only t s ps vs d n in (d, r .0, r .1);
     }

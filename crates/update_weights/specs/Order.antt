@@ -1,10 +1,11 @@
 -- What a change leaves, what it is refused for, and in which order: each case of it, in plain words.
 use mathlib.Core.Path.{_≡_}
-use mathlib.Core.Bool.{false}
+use mathlib.Core.Logic.{_⊎_}
+use mathlib.Core.Bool.{true, false}
 use mathlib.Core.List.{List, [], _∷_, _++_}
 use Prim.Native.Nat.{ℕ, suc, _≤_, _<_}
 use lib.ListN.{length, getD}
-use Rattle.refusal.specs.declared.Refusal.the-variants.{Overflow, InsufficientNonZero, PlacesNotIncreasing, PlaceOutOfRange}
+use Rattle.refusal.specs.declared.Refusal.the-variants.{Overflow, InsufficientNonZero, PlacesNotIncreasing, PlaceOutOfRange, InvalidTable, SliceTooShort, TooLong}
 use Rattle.counting.specs.Lists.{member}
 use Rattle.weighted_index.specs.Weights.{mostWeights, mostTotal, total}
 use Rattle.weighted_index.specs.Tables.{brokenTable, heldWeights}
@@ -44,15 +45,23 @@ pub record Replacing : Type 0 where
   -- and there are as many as before.
   pub count : (ws ps vs : List ℕ) → length (replaced ws ps vs) ≡ length ws
 
--- how a change ends that comes to its items
+-- how a change ends, the cases in their order
 pub record ChangeOrder : Type 0 where
-  -- the first place that is refused is not above the one before it, whatever weights come with it: 5,
+  -- the table or the list of weights is too long: 10,
+  pub long : (t : WeightedIndex) (s ps vs : List ℕ) → (mostWeights < t .count) ⊎ (mostWeights < length vs) → updateOf t s ps vs ≡ refuses TooLong s
+  -- or neither is, and the table is that of no weights: 7,
+  pub broken : (t : WeightedIndex) (s ps vs : List ℕ) → t .count ≤ mostWeights → length vs ≤ mostWeights → brokenTable t s ≡ true
+      → updateOf t s ps vs ≡ refuses InvalidTable s
+  -- or it is not, and the lists differ in length: 8.
+  pub differ : (t : WeightedIndex) (s ps vs : List ℕ) → t .count ≤ mostWeights → length vs ≤ mostWeights → brokenTable t s ≡ false
+      → (length ps ≡ length vs → ⊥) → updateOf t s ps vs ≡ refuses SliceTooShort s
+  -- Else it comes to its items. The first place that is refused is not above the one before it, whatever weights come with it: 5,
   pub order : (t : WeightedIndex) (s qs : List ℕ) (p : ℕ) (ps vs : List ℕ) → Listed t s (qs ++ (p ∷ ps)) vs → Placed (t .count) 0 qs
       → p < next 0 qs → updateOf t s (qs ++ (p ∷ ps)) vs ≡ refuses PlacesNotIncreasing s
-  -- or it is above that, and not below the count: 6
+  -- or it is above that, and not below the count: 6.
   pub range : (t : WeightedIndex) (s qs : List ℕ) (p : ℕ) (ps vs : List ℕ) → Listed t s (qs ++ (p ∷ ps)) vs → Placed (t .count) 0 qs
       → next 0 qs ≤ p → t .count ≤ p → updateOf t s (qs ++ (p ∷ ps)) vs ≡ refuses PlaceOutOfRange s
-  -- no place is refused, and the weights after the whole list add up to too much: 3,
+  -- No place is refused, and the weights after the whole list add up to too much: 3,
   pub overflow : (t : WeightedIndex) (s ps vs : List ℕ) → Listed t s ps vs → Placed (t .count) 0 ps
       → mostTotal < total (after t s ps vs) → updateOf t s ps vs ≡ refuses Overflow s
   -- or to 0: 4,
@@ -62,5 +71,5 @@ pub record ChangeOrder : Type 0 where
   pub taken : (t : WeightedIndex) (s ps vs : List ℕ) → Listed t s ps vs → Placed (t .count) 0 ps
       → 0 < total (after t s ps vs) → total (after t s ps vs) ≤ mostTotal → updateOf t s ps vs ≡ makes (after t s ps vs) s
   -- So 3 is given for nothing but what the whole list leaves.
-  pub only : (t : WeightedIndex) (s ps vs : List ℕ) → Listed t s ps vs → updateOf t s ps vs .answer .number ≡ 3
-      → Placed (t .count) 0 ps × (mostTotal < total (after t s ps vs))
+  pub only : (t : WeightedIndex) (s ps vs : List ℕ) → updateOf t s ps vs .answer .number ≡ 3
+      → Listed t s ps vs × Placed (t .count) 0 ps × (mostTotal < total (after t s ps vs))

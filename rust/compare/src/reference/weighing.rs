@@ -266,6 +266,7 @@ mod tests {
     use rand::distr::weighted::{Error, WeightedIndex};
 
     use super::Held;
+    use crate::panics::panics;
     use crate::words::giving;
 
     /// Document 01's marked table: the word 2^31 gives c = 2 of 5, the word 2^30 gives c = 1.
@@ -312,6 +313,20 @@ mod tests {
         assert!([0, 3, 4, 5, 6].iter().all(|&end| ends[end] > 0), "{ends:?}");
     }
 
+    /// rand is asked where the total passes 2^32 - 1 and comes back: with a table beside the list that is not the list's, the change is
+    /// found out. A build without checks leaves it no weight; one with checks does not panic.
+    #[test]
+    fn rand_is_asked_where_a_total_comes_back() {
+        let other = if cfg!(debug_assertions) {
+            [1, 0, 0]
+        } else {
+            [0, 1, 1]
+        };
+        let mut held = Held::new(&[0, 1, 0], 2).expect("a table");
+        held.rand = WeightedIndex::new(other).expect("a table");
+        assert!(panics(|| _ = held.update_weights(&[0, 1], &[u32::MAX, 0])));
+    }
+
     /// rand's table of these weights after a change by whose pairs its total passes 2^32 - 1, and what it answers.
     fn overflowing(
         weights: &[u32],
@@ -327,8 +342,6 @@ mod tests {
     #[cfg(debug_assertions)]
     #[test]
     fn rand_panics_where_a_total_passes_the_greatest() {
-        use crate::panics::panics;
-
         let greatest = &u32::MAX;
         for pairs in [
             &[(0, greatest)][..],
