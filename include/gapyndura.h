@@ -1,6 +1,8 @@
 /* Gapyndura: samples, shuffles, reservoirs and weights of crate rand 0.10.3, proved equal to their definitions.
  *
- * For x86-64 Linux. Link with libcapi.a, which `rt staticlib capi` makes in target/staticlib/.
+ * For x86-64 Linux. `tools/install PREFIX` puts it in PREFIX/include, the archive to link with, libgapyndura.a, in PREFIX/lib, and a
+ * file for pkg-config beside that: cc program.c $(pkg-config --cflags --libs gapyndura). In the repository itself the archive is
+ * target/staticlib/libcapi.a, which `rt staticlib capi` makes.
  *
  * What a caller owes, in every call:
  * - A pointer is not null, also where the length that goes with it is 0; it is aligned for its type, and is good for that
@@ -21,6 +23,47 @@
 #ifdef __cplusplus
 extern "C" {
 #endif
+
+/* What the calls answer, by name: 0 where the call was carried out, else why it is declined. Each call below says which of them it
+ * answers, and when. */
+enum gapyndura_refusal {
+    GAPYNDURA_DONE = 0,
+    GAPYNDURA_AMOUNT_EXCEEDS_LENGTH = 1,
+    GAPYNDURA_NO_WEIGHTS = 2,
+    GAPYNDURA_OVERFLOW = 3,
+    GAPYNDURA_INSUFFICIENT_NON_ZERO = 4,
+    GAPYNDURA_PLACES_NOT_INCREASING = 5,
+    GAPYNDURA_PLACE_OUT_OF_RANGE = 6,
+    GAPYNDURA_INVALID_TABLE = 7,
+    GAPYNDURA_SLICE_TOO_SHORT = 8,
+    GAPYNDURA_SCRATCH_TOO_SHORT = 9,
+    GAPYNDURA_TOO_LONG = 10,
+    GAPYNDURA_INVALID_HINTS = 11,
+    GAPYNDURA_ZERO_STATE = 12,
+    GAPYNDURA_BUDGET_EXHAUSTED = 13
+};
+
+/* An answer in words, as a text that is never freed. Any number will do: of one that no call answers the text says just that. */
+static inline const char *gapyndura_refusal_text(uint32_t number)
+{
+    switch (number) {
+    case GAPYNDURA_DONE: return "the call was carried out";
+    case GAPYNDURA_AMOUNT_EXCEEDS_LENGTH: return "the amount is above the length";
+    case GAPYNDURA_NO_WEIGHTS: return "there are no weights";
+    case GAPYNDURA_OVERFLOW: return "the weights sum above 2^32 - 1";
+    case GAPYNDURA_INSUFFICIENT_NON_ZERO: return "every weight is 0";
+    case GAPYNDURA_PLACES_NOT_INCREASING: return "a changed place is not above the one before it";
+    case GAPYNDURA_PLACE_OUT_OF_RANGE: return "a changed place is not below the count of weights";
+    case GAPYNDURA_INVALID_TABLE: return "the cumulative weights are those of no list of weights";
+    case GAPYNDURA_SLICE_TOO_SHORT: return "a slice has too few entries";
+    case GAPYNDURA_SCRATCH_TOO_SHORT: return "the scratch slice is shorter than the length";
+    case GAPYNDURA_TOO_LONG: return "a length or a count is too large";
+    case GAPYNDURA_INVALID_HINTS: return "the bounds on what remains do not hold of the items";
+    case GAPYNDURA_ZERO_STATE: return "all four words of the generator's state are 0";
+    case GAPYNDURA_BUDGET_EXHAUSTED: return "the budget of words is used up";
+    default: return "no call answers this number";
+    }
+}
 
 /* The generator xoshiro256++ of Blackman and Vigna is its four words of state, which the caller keeps. */
 

@@ -1,13 +1,13 @@
-/* Which closings of a gate are measured again: every kind of call of gapyndura.h, from one seed.
+/* Which closings of a gate are measured again: every kind of call of gapyndura.h, from one seed. Where tools/install has put the library,
  *
- *     cc -I include examples/c/closings.c target/staticlib/libcapi.a -o closings
+ *     cc closings.c $(pkg-config --cflags --libs gapyndura) -o closings
  *
  * examples/rust/closings.rs makes the same calls, and both print examples/closings.stdout. */
 #include <inttypes.h>
 #include <stdio.h>
 #include <stdlib.h>
 
-#include "gapyndura.h"
+#include <gapyndura.h>
 
 /* The calls are made as version 4 has them; CHANGELOG.md says what a later one changes. */
 #if GAPYNDURA_VERSION != 4
@@ -17,29 +17,11 @@
 /* The most words that a call may read which could else read on for ever. */
 #define BUDGET 1000
 
-/* Why a call is declined, by number. */
-static const char *const refusals[] = {
-    "carried out",
-    "the amount is above the length",
-    "there are no weights",
-    "the weights sum above 2^32 - 1",
-    "every weight is 0",
-    "a changed place is not above the one before it",
-    "a changed place is not below the count of weights",
-    "the cumulative weights are those of no list of weights",
-    "a slice has too few entries",
-    "the scratch slice is shorter than the length",
-    "a length or a count is too large",
-    "the bounds on what remains do not hold of the items",
-    "all four words of the generator's state are 0",
-    "the budget of words is used up",
-};
-
 /* Ends the program where a call that must be carried out was not. */
 static void must(const char *call, uint32_t number)
 {
-    if (number != 0) {
-        fprintf(stderr, "%s is refused with %" PRIu32 ": %s\n", call, number, refusals[number]);
+    if (number != GAPYNDURA_DONE) {
+        fprintf(stderr, "%s is refused with %" PRIu32 ": %s\n", call, number, gapyndura_refusal_text(number));
         exit(1);
     }
 }
@@ -113,15 +95,17 @@ static void choose_reader(uint64_t state[4])
     printf("reader %" PRIu64 " (words read: %" PRIu64 ")\n", out[2], out[0]);
 }
 
-/* Calls that are declined: the answer is the number of the cause, and nothing has changed but with 13, where the budget is read. */
+/* Calls that are declined: the answer is the number of the cause, and nothing has changed but where the budget is used up: then it is read. */
 static void be_refused(uint64_t state[4])
 {
     uint32_t closings[200], scratch[1], number;
     uint64_t out[2];
     number = gapyndura_sample(state, 3, 4, BUDGET, closings, 200, scratch, 0, out);
-    printf("refused with %" PRIu32 ": %s (words read: %" PRIu64 ")\n", number, refusals[number], out[0]);
+    printf("refused with %" PRIu32 ": %s (words read: %" PRIu64 ")\n", number, gapyndura_refusal_text(number), out[0]);
     number = gapyndura_sample(state, 1000000, 200, 7, closings, 200, scratch, 0, out);
-    printf("refused with %" PRIu32 ": %s (words read: %" PRIu64 ", found: %" PRIu64 ")\n", number, refusals[number], out[0], out[1]);
+    if (number == GAPYNDURA_BUDGET_EXHAUSTED)
+        printf("refused with %" PRIu32 ": %s (words read: %" PRIu64 ", found: %" PRIu64 ")\n", number, gapyndura_refusal_text(number), out[0],
+               out[1]);
 }
 
 int main(void)

@@ -9,8 +9,7 @@ use std::error::Error;
 use gapyndura::index::sample;
 use gapyndura::iterator::{choose, choose_stable, sample_fill};
 use gapyndura::slice::{partial_shuffle, shuffle};
-use gapyndura::weighted_index::WeightedIndex;
-use gapyndura::{Refusal, Xoshiro256PlusPlus};
+use gapyndura::{Refusal, WeightedIndex, Xoshiro256PlusPlus};
 
 /// The calls are made as version 4 has them; `CHANGELOG.md` says what a later one changes.
 const _: () = assert!(gapyndura::VERSION == 4);

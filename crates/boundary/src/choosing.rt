@@ -8,7 +8,7 @@ use choose::Choice;
 use choose::Chosen;
 
 // The words read, and 1 and the item, or 0 and 0 where there is none.
-fn item_out(answer: Choice, read: u64) -> [u64; 3]
+pub fn item_out(answer: Choice, read: u64) -> [u64; 3]
     ensures { λ r. ⌜ r ≡ read ∷ optional (answerOfChoice answer) ⌝ }
 {
     match answer {
@@ -22,7 +22,7 @@ fn item_out(answer: Choice, read: u64) -> [u64; 3]
 }
 
 // The number of a choice's answer.
-fn number_of(answer: Choice) -> u32
+pub fn number_of(answer: Choice) -> u32
     ensures { λ r. ⌜ r ≡ answerOfChoice answer .number ⌝ }
 {
     match answer {

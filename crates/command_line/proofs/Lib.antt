@@ -5,3 +5,8 @@ pub mod HexBytes
 pub mod Spelling
 pub mod ReadsBack
 pub mod Copying
+pub mod Cutting
+pub mod Seeking
+pub mod ReadingNumbers
+pub mod Generators
+pub mod Decimals

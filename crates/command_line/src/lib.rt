@@ -2,5 +2,8 @@
 pub mod block;
 pub mod decimal;
 mod digits;
+pub mod fields;
+pub mod listing;
+pub mod numbers;
 pub mod seed;
 pub mod spell;

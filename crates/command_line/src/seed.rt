@@ -4,11 +4,12 @@ ghost use mathlib.Core.Bool.{true};
 ghost use Prim.Native.Nat.{_+_, _*_};
 ghost use lib.ListN.{length};
 ghost use Rattle.command_line.specs.Digits.{digitOf, isDigit, every};
-ghost use Rattle.command_line.specs.Seed.{bytesOf, isHex, seedOf};
+ghost use Rattle.command_line.specs.Seed.{bytesOf, isHex, seedOf, generatorOf};
 use super::decimal::Parsed;
 use super::decimal::parse_decimal;
 use super::digits::are_digits;
 use super::digits::digit;
+use check::same;
 use xoshiro256plusplus::Xoshiro256PlusPlus;
 
 // What a text is as a seed. The definition `seedOf` says which texts have which of these answers.
@@ -61,4 +62,19 @@ pub fn parse_seed(text: &[u8]) -> Seed
         Parsed::NoNumber => Seed::NoSeed,
         Parsed::TooLarge => Seed::NoSeed,
     }
+}
+
+// Reads a word as a generator: the definition `generatorOf`. That is a seed, or the word `zero` for the all-zero state, which no seed gives.
+pub fn parse_generator(word: &[u8]) -> Seed
+    ensures { λ r. ⌜ r ≡ generatorOf (now (word .entry)) ⌝ }
+{
+    if same(word, b"zero") {
+        return Seed::Generator(Xoshiro256PlusPlus {
+            s0: 0,
+            s1: 0,
+            s2: 0,
+            s3: 0,
+        });
+    }
+    parse_seed(word)
 }

@@ -1,80 +1,44 @@
-// Draws by the command line: a word for what is drawn, then its numbers. `help.rt` has the text that says how. All arguments are read before
-// anything is drawn. An answer goes to standard output, and a line on wrong arguments to standard error.
-use arguments::Options;
-use lists::place_in;
-use requests::Asked;
-use requests::fits;
-use requests::read;
-use requests::rules_of;
-use slices::word_places;
+// The program of `./draw` for small draws: slices of 65,537 entries. It answers the list of calls on standard input (crate `replay`).
+ghost use mathlib.Core.Path.{_≡_};
+ghost use lib.ListN.{length};
+use replay::replay;
 
-mod answers;
-mod arguments;
-mod block;
-mod choosing;
-mod faults;
-mod filling;
-mod help;
-mod lists;
-mod picking;
-mod requests;
-mod sampling;
-mod shuffling;
-mod slices;
-mod words;
-
-// Makes the draw of a command.
-fn make(o: Options, places: &[u32; 65539], command: u64) {
-    let rules = rules_of(command);
-    if !fits(o, command, rules) {
-        return;
-    }
-    let Asked::Good(r) = read(o, places, rules) else {
-        return;
-    };
-    match command {
-        0 => sampling::sample(r),
-        1 => shuffling::shuffle(r),
-        2 => filling::fill(r),
-        3 => picking::pick(r, places, o.words),
-        _ => choosing::choose(o, r),
-    }
+// Room for a slice. Only its length is told, which lending it asks for.
+fn entries() -> [u32; 65537]
+    ensures { λ r. ⌜ 65537 ≡ length r ⌝ }
+{
+    [0; 65537]
 }
 
-// Does what the first plain word names.
-fn obey(o: Options, places: &[u32; 65539], name: &[u8]) {
-    let command = place_in(b"sample shuffle fill pick choose help ", name);
-    if command < 5 {
-        make(o, places, command);
-        return;
-    }
-    if command == 5 {
-        help::show();
-        return;
-    }
-    faults::word(faults::COMMAND, name, faults::A_COMMAND);
+// Room for the numbers of a line.
+fn numbers() -> [u64; 32768]
+    ensures { λ r. ⌜ 32768 ≡ length r ⌝ }
+{
+    [0; 32768]
 }
 
-// Does what the plain words ask for.
-fn obey_words(o: Options, places: &[u32; 65539]) {
-    let mut buf = [0u8; 256];
-    let n = os::arg(words::place(places, 0), &mut buf);
-    obey(o, places, &buf[..n]);
+// Room for the list.
+fn text() -> [u8; 524288]
+    ensures { λ r. ⌜ 524288 ≡ length r ⌝ }
+{
+    [0; 524288]
 }
 
 fn main() {
-    if os::arg_count() < 2 {
-        sampling::first();
-        return;
-    }
-    let mut places = word_places();
-    let o = arguments::sort(&mut places);
-    if !o.is_good {
-        return;
-    }
-    if o.asks_help {
-        help::show();
-        return;
-    }
-    obey_words(o, &places);
+    let mut list = text();
+    let mut block = io::large_buffer();
+    let mut numbers = numbers();
+    let mut a = entries();
+    let mut b = entries();
+    let mut c = entries();
+    let mut d = entries();
+    replay(
+        &mut list,
+        &mut block,
+        &mut numbers,
+        &mut a,
+        &mut b,
+        &mut c,
+        &mut d,
+    );
 }

@@ -1,24 +1,25 @@
 //! Long mixed runs: one generator carried through many samples, shuffles, fills, picks, choices, words and views, so that a generator
 //! left in the wrong place shows in all that follows.
 
-use reference::choosing::{self, choose, choose_stable};
-use reference::filling::{Filling, sample_fill};
-use reference::plain_list::Record;
-use reference::sampling::{Ended, Sampling};
-use reference::shuffling::{Outcome, Shuffling, Whole, partial_shuffle, shuffle};
-use reference::viewing::{self, View, next_u32, view};
-use reference::weighing::pick;
-use reference::{State, hash};
+use reference::State;
+use reference::answer::digest;
+use reference::call::{Calls, RAND};
+use reference::choosing;
+use reference::filling::Filling;
+use reference::sampling::{End, Ended, Sampling};
+use reference::shuffling::{Outcome, Shuffling, Whole};
+use reference::viewing::View;
 
 use crate::choose::{self, Choose};
 use crate::fill::{self, SampleFill};
 use crate::inputs::{Source, edges, smaller};
 use crate::kind::Kind;
+use crate::port::PORT;
 use crate::sample::{self, Sample};
 use crate::shuffle::{self, PartialShuffle, Shuffle};
 use crate::slices::Lent;
 use crate::view::{self, IndexedSamples};
-use crate::{weights, word};
+use crate::weights;
 
 /// The calls of a run.
 const CALLS: u64 = 1000;
@@ -39,52 +40,13 @@ pub struct Input {
     calls: u64,
 }
 
-/// The state after a run, the words read in all, and a hash of all answers and slices.
+/// The state after a run, the words read in all, and a digest of all answers and slices.
 #[derive(Debug, PartialEq)]
 pub struct Total {
     state: State,
     words: u64,
-    hash: u64,
+    digest: u64,
 }
-
-/// A way to make each of the calls.
-struct Calls {
-    sample: sample::End,
-    partial_shuffle: fn(State, u64, &mut [u32]) -> Outcome,
-    shuffle: fn(State, &mut [u32]) -> Outcome,
-    sample_fill: fill::End,
-    pick: fn(State, Record, &[u32], u64) -> Ended,
-    choose: choosing::Choose,
-    choose_stable: choosing::Choose,
-    next_u32: viewing::NextU32,
-    view: View,
-}
-
-/// rand's calls.
-const RAND: Calls = Calls {
-    sample: Sampling::end,
-    partial_shuffle,
-    shuffle,
-    sample_fill,
-    pick,
-    choose,
-    choose_stable,
-    next_u32,
-    view,
-};
-
-/// The port's calls.
-const PORT: Calls = Calls {
-    sample: sample::port::end,
-    partial_shuffle: shuffle::port::partial_shuffle,
-    shuffle: shuffle::port::shuffle,
-    sample_fill: fill::port::sample_fill,
-    pick: weights::PORT.pick,
-    choose: choose::port::choose,
-    choose_stable: choose::port::choose_stable,
-    next_u32: word::port,
-    view: view::port::view,
-};
 
 impl Kind for LongRun {
     const NAME: &'static str =
@@ -97,9 +59,9 @@ impl Kind for LongRun {
     fn new(plant: Option<&str>) -> Self {
         let mut port = PORT;
         if plant == Some(GENERATOR_STAYS) {
-            port.pick = |from, table, lent, budget| Ended {
+            port.weights.pick = |from, table, lent, budget| Ended {
                 state: from,
-                ..(PORT.pick)(from, table, lent, budget)
+                ..(PORT.weights.pick)(from, table, lent, budget)
             };
         }
         Self { port }
@@ -136,79 +98,79 @@ impl Kind for LongRun {
     }
 
     fn rand(input: &Input) -> Total {
-        RAND.total(input)
+        total(&RAND, input)
     }
 
     fn port(&self, input: &Input) -> Total {
-        self.port.total(input)
+        total(&self.port, input)
     }
 }
 
-impl Calls {
-    /// What comes of a run.
-    fn total(&self, input: &Input) -> Total {
-        let mut source = Source::new(input.seed);
-        let mut total = Total {
-            state: input.from,
-            words: 0,
-            hash: 0,
-        };
-        for _ in 0..input.calls {
-            let (ended, lent) = self.call(total.state, &mut source);
-            total.state = ended.state;
-            total.words += ended.words;
-            let mut seen = vec![total.hash, ended.number, ended.count, ended.words];
-            seen.extend(lent.iter().map(Lent::hash));
-            let halves = seen.iter().map(|number| (number ^ number >> 32) as u32);
-            total.hash = hash(&halves.collect::<Vec<u32>>());
+/// What comes of a run in which the calls are made so.
+fn total(calls: &Calls, input: &Input) -> Total {
+    let mut source = Source::new(input.seed);
+    let mut total = Total {
+        state: input.from,
+        words: 0,
+        digest: 0,
+    };
+    for _ in 0..input.calls {
+        let (ended, lent) = call(calls, total.state, &mut source);
+        total.state = ended.state;
+        total.words += ended.words;
+        let mut seen = vec![total.digest, ended.number, ended.count, ended.words];
+        seen.extend(lent.iter().map(Lent::digest));
+        let halves = seen.iter().map(|number| (number ^ number >> 32) as u32);
+        total.digest = digest(&[&halves.collect::<Vec<u32>>()]);
+    }
+    total
+}
+
+/// A random call from this generator: how it ends, and the slices that it was lent.
+fn call(calls: &Calls, from: State, source: &mut Source) -> (Ended, Vec<Lent>) {
+    match source.below(9) {
+        0 => sampled(from, source, calls.sample),
+        1 => {
+            let Shuffling { len, amount, .. } = PartialShuffle::random(source);
+            shuffled(len, |items| (calls.partial_shuffle)(from, amount, items))
         }
-        total
-    }
-
-    /// A random call from this generator: how it ends, and the slices that it was lent.
-    fn call(&self, from: State, source: &mut Source) -> (Ended, Vec<Lent>) {
-        match source.below(9) {
-            0 => self.sample(from, source),
-            1 => {
-                let Shuffling { len, amount, .. } = PartialShuffle::random(source);
-                shuffled(len, |items| (self.partial_shuffle)(from, amount, items))
-            }
-            2 => {
-                let Whole { len, .. } = Shuffle::random(source);
-                shuffled(len, |items| (self.shuffle)(from, items))
-            }
-            3 => {
-                let call = Filling {
-                    from,
-                    ..SampleFill::random(source)
-                };
-                let answer = fill::Answer::new(&call, self.sample_fill);
-                (answer.ended, vec![answer.buf])
-            }
-            4 => self.pick(from, source),
-            5 => chosen(from, source, self.choose),
-            6 => chosen(from, source, self.choose_stable),
-            7 => ((self.next_u32)(from), Vec::new()),
-            _ => viewed(from, source, self.view),
+        2 => {
+            let Whole { len, .. } = Shuffle::random(source);
+            shuffled(len, |items| (calls.shuffle)(from, items))
         }
+        3 => {
+            let call = Filling {
+                from,
+                ..SampleFill::random(source)
+            };
+            let answer = fill::Answer::new(&call, calls.sample_fill);
+            (answer.ended, vec![answer.buf])
+        }
+        4 => picked(from, source, &calls.weights),
+        5 => chosen(from, source, calls.choose),
+        6 => chosen(from, source, calls.choose_stable),
+        7 => ((calls.next_u32)(from), Vec::new()),
+        _ => viewed(from, source, calls.view),
     }
+}
 
-    fn sample(&self, from: State, source: &mut Source) -> (Ended, Vec<Lent>) {
-        let call = Sampling {
-            from,
-            ..Sample::random(source)
-        };
-        let answer = sample::Answer::new(&call, self.sample);
-        (answer.ended, vec![answer.indices, answer.scratch])
-    }
+/// How a sample ends, and both slices.
+fn sampled(from: State, source: &mut Source, end: End) -> (Ended, Vec<Lent>) {
+    let call = Sampling {
+        from,
+        ..Sample::random(source)
+    };
+    let answer = sample::Answer::new(&call, end);
+    (answer.ended, vec![answer.indices, answer.scratch])
+}
 
-    fn pick(&self, from: State, source: &mut Source) -> (Ended, Vec<Lent>) {
-        let table = weights::random::table(source);
-        let budget = weights::random::budget(source);
-        let mut sums = Lent::of(&table.sums);
-        let ended = (self.pick)(from, table.record, sums.entries(), budget);
-        (ended, vec![sums])
-    }
+/// How a pick ends, and the slice of the sums.
+fn picked(from: State, source: &mut Source, calls: &weights::Calls) -> (Ended, Vec<Lent>) {
+    let table = weights::random::table(source);
+    let budget = weights::random::budget(source);
+    let mut sums = Lent::of(&table.sums);
+    let ended = (calls.pick)(from, table.record, sums.entries(), budget);
+    (ended, vec![sums])
 }
 
 /// How a shuffle of so many items ends, and the items.

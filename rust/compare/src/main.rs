@@ -8,11 +8,10 @@ mod choose;
 mod fill;
 mod inputs;
 mod kind;
-#[cfg(test)]
-mod listed;
 mod long_run;
 #[cfg(test)]
 mod longest;
+mod port;
 mod program;
 mod sample;
 mod seeding;
@@ -28,7 +27,6 @@ use std::process::ExitCode;
 use arguments::{Arguments, Faults, USAGE};
 use kind::{Entry, Tally};
 use program::Program;
-use reference::call::Name;
 
 /// The kinds of call at the C boundary, in the order in which they are run.
 const KINDS: [Entry; 17] = [
@@ -74,7 +72,7 @@ fn run(arguments: &Arguments) -> Result<Tally, String> {
         Program::new(path, arguments.plant.as_deref()).map_err(|error| format!("{path}: {error}"))
     });
     let program = program.transpose()?;
-    let lines = program.as_ref().map_or(0, |_| Name::ALL.len());
+    let lines = program.as_ref().map_or(0, |_| program::PARTS);
     let all = KINDS.iter().map(|entry| entry.parts).sum::<usize>() + lines;
     let mut sum = Tally::default();
     for entry in KINDS.iter().filter(|entry| arguments.wants(entry.faults)) {

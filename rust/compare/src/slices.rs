@@ -2,7 +2,7 @@
 
 use std::{fmt, ptr, slice};
 
-use reference::hash;
+use reference::answer::digest;
 
 /// Entries on either side of a slice. Three, so that the slice is aligned for its entries and for nothing larger.
 const MARGIN: usize = 3;
@@ -32,9 +32,9 @@ impl Lent {
         lent
     }
 
-    /// A hash of it and of what is around it.
-    pub fn hash(&self) -> u64 {
-        hash(&self.0)
+    /// A digest of it and of what is around it.
+    pub fn digest(&self) -> u64 {
+        digest(&[&self.0])
     }
 
     /// What is lent.
@@ -52,7 +52,7 @@ impl fmt::Debug for Lent {
         if entries.len() > SHOWN {
             write!(f, " and on to {} entries", entries.len())?;
         }
-        write!(f, ", hash with those around it {:x}", self.hash())
+        write!(f, ", digest with those around it {}", self.digest())
     }
 }
 

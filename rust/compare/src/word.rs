@@ -111,25 +111,3 @@ impl Kind for NextU32 {
         (self.end)(*from)
     }
 }
-
-#[cfg(test)]
-mod tests {
-    use reference::call::joined;
-    use reference::view_line::lent_words;
-
-    use super::port;
-    use crate::listed::lines;
-
-    #[test]
-    fn the_port_gives_the_lent_words_of_the_list() {
-        let lines = lines("lent_words");
-        assert!(lines.len() > 10, "{} in the list", lines.len());
-        for listed in lines {
-            let [count] = listed.numbers[..] else {
-                panic!("five numbers: {}", listed.line);
-            };
-            let answer = lent_words(listed.from, count, port);
-            assert_eq!(joined(&answer), listed.answer, "{}", listed.line);
-        }
-    }
-}

@@ -34,9 +34,34 @@ fn a_planted_fault_is_told_and_ends_with_status_1() {
     }
 }
 
+/// The program that gives back its lines answers none of them as rand does. A fault of lines alone is planted, so that only lines are run.
+#[test]
+fn a_program_that_differs_is_told_with_the_smallest_lines() {
+    let words = [
+        "--plant",
+        "answer-digest",
+        "--program",
+        "cat",
+        "--calls",
+        "5",
+    ];
+    let output = compare(&words);
+    let text = String::from_utf8_lossy(&output.stdout);
+    assert_eq!(output.status.code(), Some(1), "{text}");
+    for line in [
+        "seed 0",
+        "shuffle 0 0",
+        "pick 0 0 0 0 0 0",
+        "choose 0 0 0 0",
+    ] {
+        assert!(text.contains(&format!("\"{line}\"")), "{line}: {text}");
+    }
+    assert!(text.ends_with("85 calls, 85 differ\n"), "{text}");
+}
+
 #[test]
 fn a_fault_that_cannot_be_planted_ends_with_status_2() {
-    for fault in ["no-such-fault", "second-word"] {
+    for fault in ["no-such-fault", "second-word", "answer-digest", "word-more"] {
         let output = compare(&["--plant", fault]);
         let text = String::from_utf8_lossy(&output.stderr);
         assert_eq!(output.status.code(), Some(2), "{fault}: {text}");

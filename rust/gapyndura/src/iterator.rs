@@ -152,7 +152,8 @@ impl From<ChooseError> for Refusal {
 /// The first of these that applies: [`ZeroState`](Refusal::ZeroState); [`TooLong`](Refusal::TooLong), for more than
 /// 2^32 - 2 items; [`InvalidHints`](Refusal::InvalidHints), where `lower` or `upper` has not exactly one entry more than
 /// there are items, or does not hold at some place; and [`BudgetExhausted`](Refusal::BudgetExhausted), where `budget` words
-/// are read and one more is needed. Only then is the generator advanced.
+/// are read and one more is needed. A choice advances the generator by the words that it reads, and so does the last of
+/// these, by exactly `budget` words; with the others no word is read and the generator stays.
 ///
 /// ```
 /// use gapyndura::{Refusal, Xoshiro256PlusPlus};

@@ -4,19 +4,24 @@
 //! boundary and nothing else: each function lends its arguments to one function of `include/gapyndura.h`. It uses no
 //! allocator and no `std`: every slice is lent by the caller.
 //!
-//! A view, [`slice::IndexedSamples`], and the two parts of a shuffled slice have no function there: the clip of a view's amount, its steps and
+//! A view, [`IndexedSamples`], and the two parts of a shuffled slice have no function there: the clip of a view's amount, its steps and
 //! the split of the slice are written here, and are not proved.
 //!
 //! ```
-//! use gapyndura::Xoshiro256PlusPlus;
-//! use gapyndura::index::sample;
+//! use gapyndura::{Refusal, WeightedIndex, Xoshiro256PlusPlus};
 //!
-//! let mut rng = Xoshiro256PlusPlus::seed_from_u64(1);
-//! let mut indices = [0; 3];
-//! sample(&mut rng, 10, 3, u64::MAX, &mut indices, &mut [])?;
-//! assert!(indices.iter().all(|&index| index < 10));
-//! # Ok::<(), gapyndura::index::SampleError>(())
+//! fn main() -> Result<(), Refusal> {
+//!     let mut rng = Xoshiro256PlusPlus::seed_from_u64(1);
+//!     let mut sums = [0; 2];
+//!     let mut table = WeightedIndex::new(&[2, 0, 3], &mut sums)?;
+//!     table.update_weights(&mut sums, &[1], &[4])?;
+//!     let picked = table.sample(&mut rng, &sums, 1000)?;
+//!     println!("item {}, {} words read", picked.index, picked.words);
+//!     Ok(())
+//! }
 //! ```
+//!
+//! The calls are in modules named as rand's; every type is also at the root.
 //!
 //! # The calls
 //!
@@ -33,17 +38,17 @@
 //! | [`iterator::sample_fill`] | `IteratorRandom::sample_fill` | two words for each item past the buffer |
 //! | [`iterator::choose`] | `IteratorRandom::choose` | `budget` words |
 //! | [`iterator::choose_stable`] | `IteratorRandom::choose_stable` | `budget` words |
-//! | [`WeightedIndex::new`](weighted_index::WeightedIndex::new) | `WeightedIndex::new` | no word |
-//! | [`WeightedIndex::update_weights`](weighted_index::WeightedIndex::update_weights) | `WeightedIndex::update_weights` | no word |
-//! | [`WeightedIndex::weight`](weighted_index::WeightedIndex::weight) | `WeightedIndex::weight` | no word |
-//! | [`WeightedIndex::sample`](weighted_index::WeightedIndex::sample) | `Distribution::sample` for `WeightedIndex` | `budget` words |
+//! | [`WeightedIndex::new`] | `WeightedIndex::new` | no word |
+//! | [`WeightedIndex::update_weights`] | `WeightedIndex::update_weights` | no word |
+//! | [`WeightedIndex::weight`] | `WeightedIndex::weight` | no word |
+//! | [`WeightedIndex::sample`] | `Distribution::sample` for `WeightedIndex` | `budget` words |
 //!
 //! # What is declined
 //!
 //! A call is declined only for a cause of [`Refusal`], and draws otherwise. Nothing is read and nothing changed by a call that
 //! is declined, but with [`BudgetExhausted`](Refusal::BudgetExhausted): then the budget is read. So only the calls that take
-//! a budget have an error with more than the cause, [`SampleError`](index::SampleError),
-//! [`ChooseError`](iterator::ChooseError) and [`PickError`](weighted_index::PickError); each becomes a [`Refusal`] by `?`.
+//! a budget have an error with more than the cause, [`SampleError`], [`ChooseError`] and [`PickError`]; each becomes a
+//! [`Refusal`] by `?`.
 //!
 //! # What of rand was left out
 //!
@@ -55,7 +60,7 @@
 //! | `choose_weighted` and its like | [`weighted_index`], the index that is picked being the item's place |
 //! | `sample` of an iterator | [`iterator::sample_fill`] |
 //! | shuffles and choices of items that are no `u32` | the call on places 0, 1 and so on, then the items at them |
-//! | `WeightedIndex::weights`, `total_weight` | [`weight`](weighted_index::WeightedIndex::weight) at each place; the field `total_weight` |
+//! | `WeightedIndex::weights`, `total_weight` | [`weight`](WeightedIndex::weight) at each place; the field `total_weight` |
 //! | weights of 8 or 16 bits | the same as `u32` |
 //! | weights of 64 or 128 bits, signed or float ones; `sample_weighted` | nothing |
 //! | lengths above 2^32 - 1 | nothing |
@@ -74,9 +79,34 @@ pub mod slice;
 pub mod weighted_index;
 mod xoshiro256plusplus;
 
+pub use index::{SampleError, Sampled};
+pub use iterator::{ChooseError, Chosen, Filled};
 pub use refusal::Refusal;
+pub use slice::{IndexedSamples, Shuffled, Viewed};
+pub use weighted_index::{PickError, Picked, WeightedIndex};
 pub use xoshiro256plusplus::Xoshiro256PlusPlus;
 
 /// The version, which is `GAPYNDURA_VERSION` of the header: 1 for the base, and one more with each request.
 /// `CHANGELOG.md` in the repository says what a caller has to change.
 pub const VERSION: u32 = 4;
+
+#[cfg(test)]
+mod tests {
+    /// The front page's program, which is run as a test of the documentation, is the one that README shows.
+    #[test]
+    fn the_program_of_the_front_page_is_that_of_the_readme() {
+        let run = include_str!("lib.rs")
+            .lines()
+            .skip_while(|line| *line != "//! ```")
+            .skip(1)
+            .take_while(|line| *line != "//! ```")
+            .filter_map(|line| line.strip_prefix("//! "));
+        let shown = include_str!("../../../README.md")
+            .lines()
+            .skip_while(|line| !line.starts_with("    use gapyndura::"))
+            .take_while(|line| line.is_empty() || line.starts_with("    "))
+            .filter_map(|line| line.strip_prefix("    "));
+        assert!(run.clone().any(|line| line.starts_with("fn main()")));
+        assert!(run.eq(shown));
+    }
+}

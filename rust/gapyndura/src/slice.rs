@@ -2,6 +2,7 @@
 //!
 //! A shuffle that is declined has read no word and changed nothing, so a [`Refusal`] says all of it.
 
+use core::fmt;
 use core::iter::FusedIterator;
 
 use crate::boundary::{gapyndura_partial_shuffle, gapyndura_shuffle};
@@ -155,7 +156,21 @@ const MOST_ITEMS: u64 = (1 << 32) - 2;
 /// assert_eq!((view.next(), view.next()), (None, None));
 /// assert_eq!(view.place, 1);
 /// ```
-#[derive(Clone, Debug)]
+///
+/// A view of items of any type can be cloned and shown. The clone shows the same items from the same place on; `Debug` tells how
+/// many items there are, and not the items.
+///
+/// ```
+/// use gapyndura::IndexedSamples;
+///
+/// struct Closing(u32); // neither `Clone` nor `Debug`
+/// let closings = [Closing(7), Closing(8), Closing(9)];
+/// let mut view = IndexedSamples { items: &closings, indices: &[2, 0], place: 0 };
+/// let mut again = view.clone();
+/// assert_eq!((view.next().map(|closing| closing.0), view.len()), (Some(9), 1));
+/// assert_eq!((again.next().map(|closing| closing.0), again.len()), (Some(9), 1));
+/// assert_eq!(format!("{view:?}"), "IndexedSamples { items_len: 3, indices: [2, 0], place: 1 }");
+/// ```
 pub struct IndexedSamples<'a, 'i, T> {
     /// The caller's items.
     pub items: &'a [T],
@@ -163,6 +178,23 @@ pub struct IndexedSamples<'a, 'i, T> {
     pub indices: &'i [u32],
     /// The next place among the indices.
     pub place: usize,
+}
+
+// By hand, as `Debug` and as those of `Viewed`: what is derived would ask the same of the items.
+impl<T> Clone for IndexedSamples<'_, '_, T> {
+    fn clone(&self) -> Self {
+        Self { ..*self }
+    }
+}
+
+impl<T> fmt::Debug for IndexedSamples<'_, '_, T> {
+    fn fmt(&self, f: &mut fmt::Formatter<'_>) -> fmt::Result {
+        f.debug_struct("IndexedSamples")
+            .field("items_len", &self.items.len())
+            .field("indices", &self.indices)
+            .field("place", &self.place)
+            .finish()
+    }
 }
 
 impl<'a, T> Iterator for IndexedSamples<'a, '_, T> {
@@ -186,13 +218,45 @@ impl<T> ExactSizeIterator for IndexedSamples<'_, '_, T> {}
 // Where it shows none it stays, so it shows none again.
 impl<T> FusedIterator for IndexedSamples<'_, '_, T> {}
 
-/// A view of drawn items, and what the draw took.
-#[derive(Clone, Debug)]
+/// A view of drawn items, and what the draw took. As the view it can be cloned and shown whatever the items are:
+///
+/// ```
+/// use gapyndura::Xoshiro256PlusPlus;
+/// use gapyndura::slice::sample;
+///
+/// struct Closing; // neither `Clone` nor `Debug`
+/// let mut rng = Xoshiro256PlusPlus::seed_from_u64(1);
+/// let mut indices = [0; 1];
+/// let viewed = sample(&mut rng, &[Closing], 1, u64::MAX, &mut indices, &mut [])?;
+/// assert_eq!(
+///     format!("{:?}", viewed.clone()),
+///     "Viewed { view: IndexedSamples { items_len: 1, indices: [0], place: 0 }, words: 1 }",
+/// );
+/// # Ok::<(), gapyndura::SampleError>(())
+/// ```
 pub struct Viewed<'a, 'i, T> {
     /// The view, at its first item.
     pub view: IndexedSamples<'a, 'i, T>,
     /// How many words were read from the generator.
     pub words: u64,
+}
+
+impl<T> Clone for Viewed<'_, '_, T> {
+    fn clone(&self) -> Self {
+        Self {
+            view: self.view.clone(),
+            words: self.words,
+        }
+    }
+}
+
+impl<T> fmt::Debug for Viewed<'_, '_, T> {
+    fn fmt(&self, f: &mut fmt::Formatter<'_>) -> fmt::Result {
+        f.debug_struct("Viewed")
+            .field("view", &self.view)
+            .field("words", &self.words)
+            .finish()
+    }
 }
 
 /// Draws `amount` of the items, in random order, or all of them where they are fewer, and lends a view that shows them.

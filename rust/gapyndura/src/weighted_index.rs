@@ -266,7 +266,8 @@ impl WeightedIndex {
     ///
     /// The first of these that applies: [`ZeroState`](Refusal::ZeroState); [`TooLong`](Refusal::TooLong), for a count above
     /// 2^32 - 2; [`InvalidTable`](Refusal::InvalidTable); and [`BudgetExhausted`](Refusal::BudgetExhausted), where `budget`
-    /// words are read and all of them dropped. Only then is the generator advanced.
+    /// words are read and all of them dropped. A pick advances the generator by the words that it reads, and so does the last
+    /// of these, by exactly `budget` words; with the others no word is read and the generator stays.
     ///
     /// ```
     /// use gapyndura::{Refusal, Xoshiro256PlusPlus};
@@ -275,9 +276,11 @@ impl WeightedIndex {
     /// let table = WeightedIndex { count: 1, total_weight: 3 };
     /// // A generator whose first word is 0, which a draw below 3 drops.
     /// let mut rng = Xoshiro256PlusPlus::from_state([0, 0, 1, 0]);
+    /// let mut after_one_word = rng.clone();
+    /// assert_eq!(after_one_word.next_u32(), Ok(0));
     /// let error = table.sample(&mut rng, &[], 1).unwrap_err();
     /// assert_eq!((error.refusal, error.words), (Refusal::BudgetExhausted, 1));
-    /// assert_ne!(rng.state(), [0, 0, 1, 0]);
+    /// assert_eq!(rng, after_one_word);
     /// ```
     #[inline]
     pub fn sample(

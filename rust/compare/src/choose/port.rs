@@ -36,29 +36,3 @@ fn ended(
         state: rng.state(),
     }
 }
-
-#[cfg(test)]
-mod tests {
-    use reference::call::joined;
-    use reference::choose_line::Patterned;
-    use reference::choosing::Choose;
-
-    use super::{choose, choose_stable};
-    use crate::listed::lines;
-
-    #[test]
-    fn the_port_gives_the_choices_of_the_list() {
-        for (name, end) in [
-            ("choose", choose as Choose),
-            ("choose_stable", choose_stable),
-        ] {
-            let lines = lines(name);
-            assert!(lines.len() > 40, "{} in the list", lines.len());
-            for listed in lines {
-                let call = Patterned::from_numbers(listed.from, &listed.numbers);
-                let port = call.answer(end);
-                assert_eq!(joined(&port), listed.answer, "{}", listed.line);
-            }
-        }
-    }
-}

@@ -6,8 +6,7 @@ mod fixed;
 pub mod port;
 mod random;
 
-use reference::State;
-use reference::filling::{Filling, sample_fill};
+use reference::filling::{Fill, Filling, sample_fill};
 use reference::sampling::Ended;
 
 use crate::inputs::{Source, smaller, smaller_states};
@@ -16,11 +15,8 @@ use crate::slices::Lent;
 
 /// Calls of `sample_fill`, each from a generator of its own.
 pub struct SampleFill {
-    pub end: End,
+    pub end: Fill,
 }
-
-/// A way to end a call.
-pub type End = fn(State, &[u32], &mut [u32]) -> Ended;
 
 /// All that is left of a call.
 #[derive(Debug, PartialEq)]
@@ -32,7 +28,7 @@ pub struct Answer {
 impl Answer {
     /// The answer where `end` ends the call and leaves the buffer as it then is. The items are 0, 1 and so on; none of them is in
     /// the buffer before.
-    pub fn new(call: &Filling, end: End) -> Self {
+    pub fn new(call: &Filling, end: Fill) -> Self {
         let items: Vec<u32> = (0..).take(call.items_len).collect();
         let mut buf = Lent::new(call.buf_len);
         let ended = end(call.from, &items, buf.entries());

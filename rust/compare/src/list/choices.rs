@@ -1,7 +1,7 @@
-//! The choices of the list. A feed has at most 2,000 items.
+//! The choices of the list.
 
 use reference::call::Call;
-use reference::choose_line::{MOST_FEED, PATTERNS, Patterned};
+use reference::choose_line::{Choosing, Hints, PATTERNS, hints};
 use reference::words::giving;
 use reference::{State, some_state};
 
@@ -24,28 +24,38 @@ const FEEDS: [(usize, u64); 11] = [
     (33, 3),
     (64, 4),
     (1000, 0),
-    (MOST_FEED, 2),
-    (MOST_FEED, 4),
+    (300, 2),
+    (300, 4),
 ];
 
 /// All choices of the list.
 pub fn sections() -> Vec<Section> {
-    vec![patterns(), feeds(), budgets(), refusals()]
+    vec![patterns(), feeds(), lists(), budgets(), refusals()]
 }
 
 /// Both choices of such a line.
-fn both(line: Patterned) -> [Call; 2] {
+fn both(line: Choosing) -> [Call; 2] {
     [Call::Choose(line.clone()), Call::ChooseStable(line)]
 }
 
-/// A line with a budget that is enough.
-fn line(from: State, items_len: usize, pattern: u64) -> Patterned {
-    Patterned {
+/// A line with a budget that is enough and hints of a pattern. Those of the first two are made, and the others are given.
+fn line(from: State, items_len: usize, pattern: u64) -> Choosing {
+    Choosing {
         from,
-        budget: ENOUGH,
         items_len,
-        pattern,
+        budget: ENOUGH,
+        hints: match pattern {
+            0 => Hints::None,
+            1 => Hints::Exact,
+            _ => given(pattern, items_len),
+        },
     }
+}
+
+/// Hints of a pattern, given.
+fn given(pattern: u64, items_len: usize) -> Hints {
+    let (lower, upper) = hints(pattern, items_len);
+    Hints::Given(lower, upper)
 }
 
 fn patterns() -> Section {
@@ -69,6 +79,36 @@ fn feeds() -> Section {
     )
 }
 
+/// Hints that are made, given as well; lists of other lengths than there are places; and hints that are false at one place.
+fn lists() -> Section {
+    let made = [0, 1].map(|pattern| given(pattern, 5));
+    let lists: [(&[u32], &[u32]); 12] = [
+        (&[], &[]),
+        (&[2, 1, 0], &[]),
+        (&[], &[2, 1, 0]),
+        (&[2, 1], &[2, 1, 0]),
+        (&[2, 1, 0], &[2, 1]),
+        (&[2, 1, 0, 0], &[2, 1, 0]),
+        (&[2, 1, 0], &[2, 1, 0, 0]),
+        (&[3, 1, 0], &[3, 1, 0]),
+        (&[2, 1, 1], &[2, 1, 1]),
+        (&[0, 0, 0], &[1, 1, 0]),
+        (&[0, 0, 0], &[2, 0, 0]),
+        (&[0, 1, 0], &[u32::MAX, 2, 7]),
+    ];
+    let with = |items_len, hints| Choosing {
+        hints,
+        ..line(some_state(630), items_len, 0)
+    };
+    let lists = lists.map(|(lower, upper)| Hints::Given(lower.to_vec(), upper.to_vec()));
+    let made = made.into_iter().map(|hints| with(5, hints));
+    let lines = made.chain(lists.into_iter().map(|hints| with(2, hints)));
+    Section::new(
+        "Choices with given hints of every length, and with false ones",
+        lines.flat_map(both).collect(),
+    )
+}
+
 /// Budgets that end a choice at each of its words: coins, a draw between coins, and a draw whose second word is read.
 fn budgets() -> Section {
     let between_coins = line(some_state(640), 5, 7);
@@ -78,14 +118,14 @@ fn budgets() -> Section {
     let mut calls = Vec::new();
     for of in [between_coins, draws] {
         calls.extend((0..5).map(|budget| {
-            Call::Choose(Patterned {
+            Call::Choose(Choosing {
                 budget,
                 ..of.clone()
             })
         }));
     }
     calls.extend((0..4).map(|budget| {
-        Call::ChooseStable(Patterned {
+        Call::ChooseStable(Choosing {
             budget,
             ..coins.clone()
         })
@@ -95,11 +135,11 @@ fn budgets() -> Section {
 
 /// No generator before false hints, and these before a budget of 0. No item and one item need no word.
 fn refusals() -> Section {
-    let mut lines: Vec<Patterned> = [(3, 0), (3, 5), (0, 6)]
+    let mut lines: Vec<Choosing> = [(3, 0), (3, 5), (0, 6)]
         .map(|(items_len, pattern)| line([0; 4], items_len, pattern))
         .to_vec();
     for (items_len, pattern) in [(0, 5), (0, 6), (7, 5), (7, 6), (0, 0), (1, 3), (2, 1)] {
-        lines.push(Patterned {
+        lines.push(Choosing {
             budget: 0,
             ..line(some_state(650), items_len, pattern)
         });

@@ -1,25 +1,27 @@
 //! What the list holds.
 
-use std::iter;
-
-use reference::call::{Call, Reading};
+use reference::answer::Answer;
+use reference::call::Call;
+use reference::draw_line::Bounded;
+use reference::generator::Generator;
+use reference::line::{Line, Name};
+use reference::sampling::Sampling;
 use reference::words::{bounded, giving, rejecting};
 use reference::{State, some_state};
 
-use crate::{choices, samples, shuffles, views, weights};
+use crate::{choices, run, samples, shuffles, views, weights, wrong};
 
 /// The bounds that are drawn below: the least, powers of two, their neighbours, and the largest.
 const BOUNDS: [u32; 8] = [1, 2, 3, 6, 1 << 31, (1 << 31) + 1, u32::MAX - 1, u32::MAX];
 
-/// Lines of random draws for each bound, and draws in each.
-const LINES: usize = 15;
-const DRAWS: u64 = 20;
+/// Random draws for each bound, one after another.
+const DRAWS: u64 = 14;
 
 /// Budgets that end a bounded draw before its first word, between its two words, after both, and never.
 const BOUNDED_BUDGETS: [u64; 4] = [0, 1, 2, u64::MAX];
 
-/// Lines of random bounded draws for each bound and each of these budgets.
-const BUDGET_LINES: usize = 2;
+/// Budgets that end a rejecting draw after one word, after two, after three, and never.
+const REJECTING_BUDGETS: [u64; 4] = [1, 2, 3, u64::MAX];
 
 /// The outputs that the authors of xoshiro256++ give for the state 1, 2, 3, 4.
 const PUBLISHED: [u64; 10] = [
@@ -35,30 +37,40 @@ const PUBLISHED: [u64; 10] = [
     10450023813501588000,
 ];
 
-/// Calls that belong together.
+/// Lines that belong together.
 pub struct Section {
     /// What they are, for the comment before them.
     pub title: String,
-    pub calls: Vec<Call>,
+    pub lines: Vec<String>,
 }
 
 impl Section {
-    /// These calls under a title.
+    /// The lines of these calls under a title.
     pub fn new(title: impl Into<String>, calls: Vec<Call>) -> Self {
+        let lines = calls.iter().map(|call| call.line().to_string());
+        Self::of_lines(title, lines.collect())
+    }
+
+    /// These lines under a title.
+    pub fn of_lines(title: impl Into<String>, lines: Vec<String>) -> Self {
         let title = title.into();
-        Self { title, calls }
+        Self { title, lines }
     }
 }
 
 /// The whole list.
 pub fn sections() -> Vec<Section> {
-    let mut sections = vec![published(), seeds(), seed_bytes(), steps(), marked()];
+    let mut sections = vec![
+        published(),
+        seeds(),
+        seed_bytes(),
+        steps(),
+        marked(),
+        zeros(),
+    ];
     for r in BOUNDS {
-        sections.push(random_bounded(r));
+        sections.push(random(r));
         sections.push(chosen_bounded(r));
-        sections.push(random_bounded_within(r));
-        sections.push(chosen_bounded_within(r));
-        sections.push(random_rejecting(r));
         sections.push(chosen_rejecting(r));
     }
     sections.extend(samples::sections());
@@ -66,25 +78,65 @@ pub fn sections() -> Vec<Section> {
     sections.extend(weights::sections());
     sections.extend(choices::sections());
     sections.extend(views::sections());
+    sections.push(run::section());
+    sections.extend(wrong::sections());
     sections
 }
 
-/// A line of readings.
-fn read(reading: Reading, from: State, count: u64) -> Call {
-    Call::Read {
-        reading,
+/// Calls one after another, each from the generator that the answer to the one before has.
+pub fn chained(from: State, calls: impl IntoIterator<Item = impl Fn(State) -> Call>) -> Vec<Call> {
+    let mut from = from;
+    let calls = calls.into_iter().map(|make| {
+        let call = make(from);
+        from = call.answer().state;
+        call
+    });
+    calls.collect()
+}
+
+/// A bounded draw without budget: Floyd's sample of one.
+fn floyd_of_one(from: State, r: u32) -> Call {
+    Call::Sample(Sampling {
         from,
-        count,
-    }
+        length: r.into(),
+        amount: 1,
+        budget: 0,
+        indices_len: 1,
+        scratch_len: 0,
+    })
+}
+
+fn random_range(from: State, r: u32, budget: u64) -> Call {
+    Call::RandomRange(Bounded { from, r, budget })
+}
+
+fn uniform_int(from: State, r: u32, budget: u64) -> Call {
+    Call::UniformInt(Bounded { from, r, budget })
 }
 
 fn published() -> Section {
-    let call = read(Reading::NextU64, [1, 2, 3, 4], PUBLISHED.len() as u64);
-    assert_eq!(call.answer()[..PUBLISHED.len()], PUBLISHED);
+    let calls = chained([1, 2, 3, 4], PUBLISHED.map(|_| Call::NextU64));
+    for (call, output) in calls.iter().zip(PUBLISHED) {
+        let halves = [(output >> 32) as u32, output as u32];
+        assert_eq!(call.answer().values, halves);
+    }
     Section::new(
         "The authors' published outputs from the state 1, 2, 3, 4",
-        vec![call],
+        calls,
     )
+}
+
+/// Lines that ask for these generators and nothing else.
+fn generators(title: &str, generators: impl IntoIterator<Item = Generator>) -> Section {
+    let lines = generators.into_iter().map(|generator| {
+        let line = Line {
+            name: Name::Seed,
+            generator,
+            numbers: Vec::new(),
+        };
+        line.to_string()
+    });
+    Section::of_lines(title, lines.collect())
 }
 
 fn seeds() -> Section {
@@ -98,10 +150,13 @@ fn seeds() -> Section {
         let zero = PHI.wrapping_mul(sums).wrapping_neg();
         seeds.extend([zero.wrapping_sub(1), zero, zero.wrapping_add(1)]);
     }
-    let calls = seeds.into_iter().map(Call::SeedFromU64).collect();
-    Section::new("Generators from one number", calls)
+    generators(
+        "Generators from one number",
+        seeds.into_iter().map(Generator::Number),
+    )
 }
 
+/// Bytes, all of them, and in either case.
 fn seed_bytes() -> Section {
     let mut seeds = vec![[0; 32], [1; 32], [127; 32], [128; 32], [255; 32]];
     for byte in [1, 128, 255] {
@@ -113,8 +168,17 @@ fn seed_bytes() -> Section {
     }
     seeds.push(std::array::from_fn(|place| place as u8));
     seeds.push(std::array::from_fn(|place| 255 - place as u8));
-    let calls = seeds.into_iter().map(Call::FromSeed).collect();
-    Section::new("Generators from 32 bytes", calls)
+    let mut section = generators(
+        "Generators from 32 bytes, and the one that no seed gives",
+        seeds.into_iter().map(Generator::Bytes),
+    );
+    section.lines.extend([
+        format!("seed {}", "AB".repeat(32)),
+        format!("seed {}", "aBCdEf01".repeat(8)),
+        format!("seed {}", "12345678".repeat(8)),
+        "seed zero".to_owned(),
+    ]);
+    section
 }
 
 fn steps() -> Section {
@@ -127,8 +191,10 @@ fn steps() -> Section {
         }
     }
     states.extend((0..10).map(some_state));
+    states.extend([giving(0, u32::MAX, 1), giving(u32::MAX, 0, 1)]);
     let calls = states.into_iter().flat_map(|from| {
-        [Reading::NextU64, Reading::NextU32].map(|reading| read(reading, from, 10))
+        let outputs = chained(from, [Call::NextU64; 4]);
+        [outputs, chained(from, [Call::NextU32; 3])].concat()
     });
     Section::new(
         "Outputs, and words, which are their upper halves",
@@ -136,8 +202,9 @@ fn steps() -> Section {
     )
 }
 
-/// The draws that document 01 works out, each held to what it says: first word, second word, value, words read.
+/// The draws that document 01 marks, each held to what it says. Those of shuffles and of weights are with these.
 fn marked() -> Section {
+    // First word, second word, value, words read.
     let drawn = [
         (2147483648, 0, 3, 1),
         (4294967295, 0, 5, 1),
@@ -146,27 +213,69 @@ fn marked() -> Section {
     ];
     let mut calls = Vec::new();
     for (a, b, value, words) in drawn {
-        let call = read(Reading::RandomRange { r: 6 }, giving(a, b, 1), 1);
-        assert_eq!(call.answer()[..2], [value, words]);
-        calls.push(call);
+        let from = giving(a, b, 1);
+        for call in [random_range(from, 6, 2), floyd_of_one(from, 6)] {
+            calls.push(held(call, &[value], words));
+        }
     }
-    let dropped = read(Reading::UniformInt { r: 6, budget: 2 }, giving(0, 1, 1), 1);
-    assert_eq!(dropped.answer()[..3], [0, 0, 2]);
-    calls.push(dropped);
-    Section::new("The draws below 6 that document 01 works out", calls)
+    calls.push(held(uniform_int(giving(0, 1, 1), 6, 2), &[0], 2));
+    // Draws 1 and 1 below 2 and below 3, and draws 0 and 0.
+    for (word, indices) in [(1 << 31, [2, 1]), (0, [2, 0])] {
+        let call = Call::Sample(Sampling {
+            from: giving(word, word, 1),
+            length: 3,
+            amount: 2,
+            budget: 0,
+            indices_len: 2,
+            scratch_len: 0,
+        });
+        calls.push(held(call, &indices, 2));
+    }
+    Section::new(
+        "The draws and the samples that document 01 works out",
+        calls,
+    )
 }
 
-/// Each of the readings, so many times over, from generators of which `mark` and the bound say which they are.
-fn random(
-    r: u32,
-    mark: u64,
-    readings: impl Iterator<Item = Reading>,
-) -> impl Iterator<Item = Call> {
-    let lines = (0..).zip(readings);
-    lines.map(move |(line, reading)| {
-        let from = some_state(u64::from(r) << 8 | mark | line);
-        read(reading, from, DRAWS)
-    })
+/// A call that is answered so.
+pub fn held(call: Call, values: &[u32], words: u64) -> Call {
+    let Answer {
+        number,
+        words: read,
+        values: drawn,
+        ..
+    } = call.answer();
+    assert_eq!((number, read, &drawn[..]), (0, words, values), "{call:?}");
+    call
+}
+
+/// Four zeros, in the lines that take them and in the one of a lent word, which does not.
+fn zeros() -> Section {
+    let zero = [0; 4];
+    let mut calls = vec![Call::NextU64(zero), Call::NextU32(zero)];
+    for r in BOUNDS {
+        for budget in [0, 1, 5] {
+            calls.push(random_range(zero, r, budget));
+            calls.push(uniform_int(zero, r, budget));
+        }
+    }
+    Section::new("Outputs and draws of four zeros", calls)
+}
+
+/// Draws of each kind from one generator, with budgets that take turns.
+fn random(r: u32) -> Section {
+    let draws = (0..DRAWS).map(|number| {
+        let budget = [u64::MAX, 2, 1, 1000, 0, 3, 4][number as usize % 7];
+        move |from| match number % 3 {
+            0 => random_range(from, r, budget),
+            1 => uniform_int(from, r, budget),
+            _ => floyd_of_one(from, r),
+        }
+    });
+    Section::new(
+        format!("Draws below {r}, one after another"),
+        chained(some_state(r.into()), draws),
+    )
 }
 
 /// Generators that give these pairs of words.
@@ -175,54 +284,20 @@ fn chosen(pairs: Vec<(u32, u32)>) -> impl Iterator<Item = State> {
     salted.map(|((a, b), salt)| giving(a, b, some_state(salt)[0]))
 }
 
-fn random_bounded(r: u32) -> Section {
-    let readings = iter::repeat_n(Reading::RandomRange { r }, LINES);
-    Section::new(
-        format!("Bounded draws below {r}"),
-        random(r, 0, readings).collect(),
-    )
-}
-
 fn chosen_bounded(r: u32) -> Section {
-    let calls = chosen(bounded(r)).map(|from| read(Reading::RandomRange { r }, from, 2));
+    let calls = chosen(bounded(r)).flat_map(|from| {
+        let within = BOUNDED_BUDGETS.map(|budget| random_range(from, r, budget));
+        [&within[..], &[floyd_of_one(from, r)]].concat()
+    });
     Section::new(
         format!("Bounded draws below {r} at the second word's tests"),
         calls.collect(),
     )
 }
 
-fn random_bounded_within(r: u32) -> Section {
-    let budgets = BOUNDED_BUDGETS.repeat(BUDGET_LINES).into_iter();
-    let readings = budgets.map(|budget| Reading::RandomRangeWithin { r, budget });
-    Section::new(
-        format!("Bounded draws below {r} within a budget"),
-        random(r, 64, readings).collect(),
-    )
-}
-
-fn chosen_bounded_within(r: u32) -> Section {
-    let calls = chosen(bounded(r)).flat_map(|from| {
-        BOUNDED_BUDGETS.map(|budget| read(Reading::RandomRangeWithin { r, budget }, from, 2))
-    });
-    Section::new(
-        format!("Bounded draws below {r} within a budget, at the second word's tests"),
-        calls.collect(),
-    )
-}
-
-fn random_rejecting(r: u32) -> Section {
-    let budgets = [0, 1, 2, 3, 4, 1000, u64::MAX].into_iter().cycle();
-    let readings = budgets.map(|budget| Reading::UniformInt { r, budget });
-    Section::new(
-        format!("Rejecting draws below {r}"),
-        random(r, 128, readings.take(LINES)).collect(),
-    )
-}
-
 fn chosen_rejecting(r: u32) -> Section {
-    let calls = chosen(rejecting(r)).flat_map(|from| {
-        [1, 2, 3, u64::MAX].map(|budget| read(Reading::UniformInt { r, budget }, from, 1))
-    });
+    let calls = chosen(rejecting(r))
+        .flat_map(|from| REJECTING_BUDGETS.map(|budget| uniform_int(from, r, budget)));
     Section::new(
         format!("Rejecting draws below {r} at the threshold"),
         calls.collect(),

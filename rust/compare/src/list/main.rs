@@ -1,13 +1,15 @@
-//! Writes the fixed list of rand's answers that a Rattle program is held to: calls in file `stdin`, answers in `stdout`.
+//! Writes the fixed list of rand's answers that the Rattle program is held to: lines in file `stdin`, answers in `stdout`.
 //!
-//! [`reference::call`] says what a line of `stdin` is and what its line of `stdout` holds.
+//! [`reference::line`] says what a line of `stdin` is and what its line of `stdout` holds.
 
 mod choices;
 mod contents;
+mod run;
 mod samples;
 mod shuffles;
 mod views;
 mod weights;
+mod wrong;
 
 use std::env;
 use std::fs;
@@ -15,10 +17,7 @@ use std::path::PathBuf;
 use std::process::ExitCode;
 
 use contents::Section;
-use reference::call::{LARGEST_LIST, joined};
-
-/// The length that no line passes, in bytes.
-const LONGEST_LINE: usize = 400;
+use reference::line::{LARGEST_LIST, answer, is_skipped};
 
 fn main() -> ExitCode {
     let mut words = env::args_os().skip(1);
@@ -50,18 +49,36 @@ fn texts(sections: &[Section]) -> (String, String) {
     let mut stdout = String::new();
     for section in sections {
         push(&mut stdin, &format!("# {}", section.title));
-        for call in &section.calls {
-            push(&mut stdin, &call.to_string());
-            push(&mut stdout, &joined(&call.answer()));
+        for line in &section.lines {
+            push(&mut stdin, line);
+            if !is_skipped(line) {
+                push(&mut stdout, &answer(line));
+            }
         }
     }
-    assert!(stdin.len() < LARGEST_LIST);
+    assert!(stdin.len() <= LARGEST_LIST, "{} bytes", stdin.len());
     (stdin, stdout)
 }
 
 /// Adds a line.
 fn push(text: &mut String, line: &str) {
-    assert!(line.len() <= LONGEST_LINE, "too long a line: {line}");
     text.push_str(line);
     text.push('\n');
+}
+
+#[cfg(test)]
+mod tests {
+    use super::{contents, fs, texts};
+
+    /// Nothing was written into them by hand, and no change of the list was forgotten.
+    #[test]
+    fn the_files_are_those_of_the_list() {
+        let file = |name| {
+            let path = format!("{}/../../crates/draw/{name}", env!("CARGO_MANIFEST_DIR"));
+            fs::read_to_string(path).expect("the list is there")
+        };
+        let (stdin, stdout) = texts(&contents::sections());
+        assert!(file("stdin") == stdin, "stdin is not that of the list");
+        assert!(file("stdout") == stdout, "stdout is not that of the list");
+    }
 }

@@ -1,7 +1,8 @@
-//! The samples of the list. A slice has at most 50,000 entries, so where the method in place is due at a greater length, it is
-//! seen by its refusal.
+//! The samples of the list. A slice has at most as many entries as there is room for, so where the method in place is due at a greater
+//! length, it is seen by its refusal.
 
-use reference::call::{Call, LONGEST_SLICE};
+use reference::call::Call;
+use reference::line::ROOM;
 use reference::methods::{Method, by_rand, due};
 use reference::sampling::Sampling;
 use reference::{State, from_state, some_state};
@@ -73,7 +74,7 @@ pub fn sections() -> Vec<Section> {
 /// The scratch slice that a sample needs, as far as there is room.
 fn scratch_len(length: u64, amount: u64) -> usize {
     match due(length as u32, amount as u32) {
-        Method::InPlace => LONGEST_SLICE.min(length as usize),
+        Method::InPlace => ROOM.min(length as usize),
         _ => 4,
     }
 }
@@ -86,7 +87,7 @@ fn sampling(from: State, length: u64, amount: u64) -> Sampling {
         amount,
         budget: amount * 10,
         indices_len: amount as usize + 2,
-        scratch_len: LONGEST_SLICE.min(scratch_len(length, amount) + 2),
+        scratch_len: ROOM.min(scratch_len(length, amount) + 2),
     }
 }
 
@@ -103,7 +104,7 @@ fn samples(sizes: &[(u64, u64)], lines: u64) -> Vec<Call> {
 /// The answer's number, and whether the scratch slice is other than it was.
 fn outcome(call: &Call) -> (u64, bool) {
     let Call::Sample(sampling) = call else {
-        panic!("{call} is no sample");
+        panic!("{call:?} is no sample");
     };
     let mut indices = vec![0; sampling.indices_len];
     let mut scratch = vec![0; sampling.scratch_len];
@@ -124,7 +125,7 @@ fn marked() -> Section {
     let mut calls = Vec::new();
     for (length, amount, is_in_place) in marked {
         let call = samples(&[(length, amount)], 1).remove(0);
-        assert_eq!(outcome(&call), (0, is_in_place), "{call}");
+        assert_eq!(outcome(&call), (0, is_in_place), "{call:?}");
         calls.push(call);
     }
     Section::new("Samples at the lengths that document 01 marks", calls)
@@ -145,7 +146,7 @@ fn marked_by_refusal() -> Section {
             scratch_len: 4,
             ..sampling(some_state(length), length, amount)
         });
-        assert_eq!(outcome(&call).0, number, "{call}");
+        assert_eq!(outcome(&call).0, number, "{call:?}");
         calls.push(call);
     }
     Section::new("Methods that are due, by their refusals", calls)

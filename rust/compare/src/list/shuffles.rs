@@ -1,37 +1,22 @@
-//! The shuffles and the fills of the list. A slice has at most 50,000 entries.
+//! The shuffles, the parts and the fills of the list. Few are long, for all their values are in the answer.
 
-use reference::call::{Call, LONGEST_SLICE};
+use reference::call::Call;
 use reference::filling::Filling;
+use reference::line::ROOM;
+use reference::shuffle_line::Part;
 use reference::shuffling::{Shuffling, Whole, chunk};
 use reference::words::giving;
 use reference::{State, some_state};
 
-use crate::contents::Section;
+use crate::contents::{Section, held};
 
 /// Lengths of whole shuffles: the least, those next to the ends of the first chunks, and long ones.
-const LENGTHS: [usize; 16] = [
-    0,
-    1,
-    2,
-    3,
-    4,
-    11,
-    12,
-    13,
-    18,
-    19,
-    20,
-    26,
-    27,
-    1000,
-    10_000,
-    LONGEST_SLICE,
-];
+const LENGTHS: [usize; 15] = [0, 1, 2, 3, 4, 11, 12, 13, 18, 19, 20, 26, 27, 300, 8000];
 
 /// Lengths at which partial shuffles of every amount to two more are asked for.
 const EVERY_AMOUNT: [usize; 5] = [0, 1, 2, 3, 5];
 
-/// The last places at which a chunk has 5, 4 and 3 factors, and one at which it has 2. The first at which it has 1 is out of reach.
+/// The last places at which a chunk has 5, 4 and 3 factors, and one at which it has 2.
 const STARTS: [usize; 4] = [81, 253, 1623, 30_000];
 
 /// Items and slots: fewer, as many and more, and none of either.
@@ -54,10 +39,10 @@ const FILLS: [(usize, usize); 22] = [
     (100, 0),
     (100, 10),
     (1000, 25),
-    (LONGEST_SLICE, 100),
-    (LONGEST_SLICE, 0),
-    (LONGEST_SLICE, LONGEST_SLICE - 1),
-    (1000, LONGEST_SLICE),
+    (ROOM, 100),
+    (ROOM, 0),
+    (3000, 2999),
+    (500, ROOM),
 ];
 
 /// All shuffles and fills of the list.
@@ -74,24 +59,29 @@ pub fn sections() -> Vec<Section> {
     ]
 }
 
-fn partial_shuffle(from: State, len: usize, amount: u64, at: u64) -> Call {
-    let shuffling = Shuffling { from, len, amount };
-    Call::PartialShuffle { shuffling, at }
+fn partial_shuffle(from: State, len: usize, amount: u64) -> Call {
+    Call::PartialShuffle(Shuffling { from, len, amount })
 }
 
-/// The shuffle that document 01 works out, held to what it says; and those of the chunks before and after.
+/// The shuffle that document 01 works out, held to what it says, and those of the chunks before and after; and the bounds of the two chunks
+/// that it works out, which show in the words: two items from place 65534 on take one word, and two from place 65535 on take two.
 fn marked() -> Section {
     // The first words that give the chunks 6, 7 and 8.
-    let calls = [54, 63, 72].map(|word| {
+    let [before, turned, after] = [54, 63, 72].map(|word| {
         Call::Shuffle(Whole {
             from: giving(word, 0, 1),
             len: 3,
         })
     });
-    assert_eq!(calls[1].answer()[..6], [0, 0, 1, 2, 1, 0]);
+    let mut calls = vec![before, held(turned, &[2, 1, 0], 1), after];
+    for (len, words) in [(65_536, 1), (65_537, 2)] {
+        let call = partial_shuffle(giving(1 << 31, 1 << 30, 1), len, 2);
+        assert_eq!(call.answer().words, words, "{call:?}");
+        calls.push(call);
+    }
     Section::new(
-        "Three items shuffled by the chunks 6, 7 and 8; document 01 works out 7",
-        calls.into(),
+        "Three items shuffled by the chunks 6, 7 and 8; document 01 works out 7. The chunks from 65535 and from 65536 on",
+        calls,
     )
 }
 
@@ -105,13 +95,12 @@ fn whole() -> Section {
     Section::new("Shuffles", calls.collect())
 }
 
-/// Partial shuffles of few items with all amounts, each with its own parts.
+/// Partial shuffles of few items with all amounts.
 fn every_amount() -> Section {
     let mut calls = Vec::new();
     for len in EVERY_AMOUNT {
         for amount in 0..=len as u64 + 2 {
-            let n = (len as u64).saturating_sub(amount);
-            calls.push(partial_shuffle(some_state(100 + amount), len, amount, n));
+            calls.push(partial_shuffle(some_state(100 + amount), len, amount));
         }
     }
     Section::new("Partial shuffles of every amount", calls)
@@ -125,7 +114,7 @@ fn at_chunks() -> Section {
             let factors = chunk(n as u32 + 1).1 as usize;
             for amount in [factors, factors + 1] {
                 let from = some_state((n + amount) as u64);
-                calls.push(partial_shuffle(from, n + amount, amount as u64, n as u64));
+                calls.push(partial_shuffle(from, n + amount, amount as u64));
             }
         }
     }
@@ -133,31 +122,38 @@ fn at_chunks() -> Section {
 }
 
 fn long() -> Section {
-    let long = LONGEST_SLICE as u64;
-    let amounts = [0, 1, 2, 100, long - 1, long, long + 1, u64::MAX];
-    let calls = amounts.map(|amount| {
+    let room = ROOM as u64;
+    let calls = [0, 1, 2, 100, 2000].map(|amount| {
         let from = some_state(amount);
-        partial_shuffle(from, LONGEST_SLICE, amount, long.saturating_sub(amount))
+        partial_shuffle(from, ROOM, amount)
     });
-    Section::new("Partial shuffles of many items", calls.into())
+    let more = [room, room + 1, u64::MAX].map(|amount| partial_shuffle([0; 4], ROOM, amount));
+    Section::new(
+        "Partial shuffles of many items",
+        [&calls[..], &more].concat(),
+    )
 }
 
-/// Parts at every kind of place: the ends, next to the start of the tail, at the length and above it.
+/// Parts at every kind of place: the ends, next to them, in the middle and beyond.
 fn parts() -> Section {
     let mut calls = Vec::new();
-    for (len, amount) in [(0, 0), (1, 1), (30, 12)] {
-        let n = len as u64 - amount;
-        let mut places = vec![0, 1, n.saturating_sub(1), n, n + 1];
-        places.extend([len as u64, len as u64 + 1, 1 << 32, u64::MAX]);
+    for len in [0, 1, 30] {
+        let last = len as u64;
+        let mut places = vec![0, 1, last / 2, last.saturating_sub(1), last, last + 1];
+        places.extend([1 << 32, (1 << 32) + 1, u64::MAX]);
         places.sort_unstable();
         places.dedup();
-        let from = some_state(len as u64);
-        calls.extend(
-            places
-                .into_iter()
-                .map(|at| partial_shuffle(from, len, amount, at)),
-        );
+        for from in [[0; 4], some_state(last)] {
+            for &at in &places {
+                let part = Part { from, len, at };
+                calls.extend([Call::Tail(part.clone()), Call::Head(part)]);
+            }
+        }
     }
+    let from = some_state(3);
+    let (len, at) = (ROOM, ROOM as u64 - 5);
+    calls.push(Call::Tail(Part { from, len, at }));
+    calls.push(Call::Head(Part { from, len, at: 5 }));
     Section::new("Tails and heads at places of every kind", calls)
 }
 
@@ -172,12 +168,12 @@ fn fills() -> Section {
     Section::new("Fills", calls.collect())
 }
 
-/// The generator that is none: nothing is shuffled or filled, and the parts are those of the items as they were.
+/// The generator that is none: nothing is shuffled or filled.
 fn refusals() -> Section {
     let from = [0; 4];
     let mut calls = Vec::new();
-    for (len, amount, at) in [(0, 0, 0), (3, 2, 1), (30, 0, 30), (30, u64::MAX, 7)] {
-        calls.push(partial_shuffle(from, len, amount, at));
+    for (len, amount) in [(0, 0), (3, 2), (30, 0), (30, u64::MAX)] {
+        calls.push(partial_shuffle(from, len, amount));
     }
     calls.extend([0, 1, 30].map(|len| Call::Shuffle(Whole { from, len })));
     let sizes = [(0, 0), (3, 0), (30, 4), (4, 30)];
@@ -188,6 +184,6 @@ fn refusals() -> Section {
             buf_len,
         })
     }));
-    assert!(calls.iter().all(|call| call.answer()[0] == 12));
+    assert!(calls.iter().all(|call| call.answer().number == 12));
     Section::new("Shuffles and fills that are refused", calls)
 }

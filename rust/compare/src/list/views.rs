@@ -1,15 +1,15 @@
-//! The views of drawn items and the lent words of the list. There are at most 50,000 items.
+//! The views of drawn items of the list. There are at most as many items as there is room for.
 
-use reference::call::{Call, LONGEST_SLICE};
+use reference::call::Call;
+use reference::line::ROOM;
 use reference::methods::{by_rand, scratch};
 use reference::sampling::Sampling;
-use reference::words::giving;
 use reference::{State, from_state, some_state};
 
 use crate::contents::Section;
 
 /// Numbers of items and amounts: none, one, few, and on both sides of the methods' bounds.
-const VIEWS: [(u64, u64); 18] = [
+const VIEWS: [(u64, u64); 20] = [
     (0, 0),
     (1, 0),
     (1, 1),
@@ -26,8 +26,10 @@ const VIEWS: [(u64, u64); 18] = [
     (44_009, 163),
     (44_010, 163),
     (49_950, 185),
+    (ROOM as u64, 12),
+    (ROOM as u64, 240),
     (300, 300),
-    (50_000, 49_999),
+    (2000, 1999),
 ];
 
 /// Numbers of items and amounts above them.
@@ -38,35 +40,23 @@ const CLIPPED: [(u64, u64); 7] = [
     (5, 9),
     (12, 13),
     (170, 1 << 32),
-    (50_000, u64::MAX),
+    (1000, u64::MAX),
 ];
 
-/// States of which words are asked for: the authors', ones with few bits, and one that gives the least and the greatest word.
-const WORDS: [(State, u64); 7] = [
-    ([1, 2, 3, 4], 20),
-    ([u64::MAX; 4], 5),
-    ([1 << 63, 0, 0, 0], 5),
-    ([0, 1, 0, 0], 5),
-    ([0, 0, 1 << 32, 0], 5),
-    ([0, 0, 0, 1], 5),
-    ([5, 6, 7, 8], 0),
-];
-
-/// All views and lent words of the list.
+/// All views of the list.
 pub fn sections() -> Vec<Section> {
     vec![
         views("Views of drawn items", 700, &VIEWS),
         views("Views of as many items as there are", 720, &CLIPPED),
         budgets(44_010, 163),
         refusals(),
-        words(),
     ]
 }
 
 /// A view with a budget that suffices and slices that are longer than it needs, as far as there is room.
 fn viewing(from: State, length: u64, amount: u64) -> Sampling {
     let drawn = amount.min(length);
-    let longer = |len: usize| LONGEST_SLICE.min(len + 2);
+    let longer = |len: usize| ROOM.min(len + 2);
     Sampling {
         from,
         length,
@@ -85,7 +75,7 @@ fn views(title: &str, first: u64, sizes: &[(u64, u64)]) -> Section {
             Call::IndexedSamples(viewing(some_state(number), length, amount))
         })
         .collect();
-    assert!(calls.iter().all(|call| call.answer()[0] == 0));
+    assert!(calls.iter().all(|call| call.answer().number == 0));
     Section::new(title, calls)
 }
 
@@ -138,7 +128,7 @@ fn refusals() -> Section {
                 indices_len,
                 scratch_len,
             });
-            assert_eq!(call.answer()[0], number, "{call}");
+            assert_eq!(call.answer().number, number, "{call:?}");
             call
         },
     );
@@ -146,18 +136,4 @@ fn refusals() -> Section {
         "Views that are refused, and slices of every length",
         calls.into(),
     )
-}
-
-/// Words, among them those of four zeros, which are refused.
-fn words() -> Section {
-    let edges = [(giving(0, u32::MAX, 1), 2), (giving(u32::MAX, 0, 1), 2)];
-    let some = (760..764).map(|number| (some_state(number), 20));
-    let dead = [1, 3].map(|count| ([0; 4], count));
-    let asked = WORDS.into_iter().chain(edges).chain(some).chain(dead);
-    let calls: Vec<Call> = asked
-        .map(|(from, count)| Call::LentWords { from, count })
-        .collect();
-    let refused = calls.last().map(Call::answer);
-    assert_eq!(refused, Some(vec![12, 0, 12, 0, 12, 0, 0, 0, 0, 0, 0]));
-    Section::new("Words of a lent generator", calls)
 }

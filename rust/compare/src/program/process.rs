@@ -4,7 +4,8 @@ use std::io::{self, Write};
 use std::process::{Command, Stdio};
 use std::thread;
 
-use reference::call::{Call, joined};
+use reference::State;
+use reference::line::{LARGEST_LIST, call, written};
 
 use super::faults;
 
@@ -14,9 +15,56 @@ pub struct Program {
     fault: Option<String>,
 }
 
-/// The line of a list that makes this call.
-pub fn line(call: &Call) -> String {
-    format!("{call}\n")
+/// Lines of a list of which the last has an answer: those before it are skipped.
+#[derive(Clone, Debug)]
+pub struct Asked {
+    text: String,
+    rand: String,
+    after: Option<State>,
+}
+
+impl Asked {
+    /// This line alone.
+    pub fn new(text: String) -> Self {
+        let answer = call(&text).map(|call| call.answer());
+        let after = answer.as_ref().map(|answer| answer.state);
+        let rand = written(answer);
+        Self { text, rand, after }
+    }
+
+    /// The same behind a line that is skipped.
+    pub fn behind(self, skipped: &str) -> Self {
+        Self {
+            text: format!("{skipped}\n{}", self.text),
+            ..self
+        }
+    }
+
+    /// The lines.
+    pub fn text(&self) -> &str {
+        &self.text
+    }
+
+    /// The line that has an answer.
+    pub fn line(&self) -> &str {
+        let lines = self.text.rsplit_once('\n');
+        lines.map_or(&self.text, |(_, line)| line)
+    }
+
+    /// rand's answer.
+    pub fn rand(&self) -> &str {
+        &self.rand
+    }
+
+    /// The state that rand's answer has, where the line is no wrong one.
+    pub fn after(&self) -> Option<State> {
+        self.after
+    }
+
+    /// How many bytes it takes of a list.
+    pub fn size(&self) -> usize {
+        self.text.len() + 1
+    }
 }
 
 impl Program {
@@ -34,61 +82,61 @@ impl Program {
         Ok(program)
     }
 
-    /// The program's answer to each of the calls, in as many runs as that takes.
-    pub fn answers(&self, calls: &[Call]) -> Vec<String> {
-        self.once(calls).unwrap_or_else(|| {
-            let (front, back) = calls.split_at(calls.len() / 2);
+    /// The program's answer to each line, in as many runs as that takes.
+    pub fn answers(&self, lines: &[Asked]) -> Vec<String> {
+        self.once(lines).unwrap_or_else(|| {
+            let (front, back) = lines.split_at(lines.len() / 2);
             [self.answers(front), self.answers(back)].concat()
         })
     }
 
-    /// The first of the calls that `is_wrong` finds fault with, and the program's answer to it.
-    pub fn first(
-        &self,
-        calls: &[Call],
-        is_wrong: fn(&Call, &str) -> bool,
-    ) -> Option<(Call, String)> {
-        let Some(answers) = self.once(calls) else {
-            let (front, back) = calls.split_at(calls.len() / 2);
-            let found = self.first(front, is_wrong);
-            return found.or_else(|| self.first(back, is_wrong));
+    /// The first of the lines that is not answered as rand does, and the program's answer to it.
+    pub fn first(&self, lines: &[Asked]) -> Option<(Asked, String)> {
+        let Some(answers) = self.once(lines) else {
+            let (front, back) = lines.split_at(lines.len() / 2);
+            return self.first(front).or_else(|| self.first(back));
         };
-        let mut both = calls.iter().cloned().zip(answers);
-        both.find(|(call, answer)| is_wrong(call, answer))
+        let mut both = lines.iter().zip(answers);
+        let found = both.find(|(line, answer)| line.rand != *answer);
+        found.map(|(line, answer)| (line.clone(), answer))
     }
 
-    /// The answers that one run gives, with the planted fault where it shows. None where there is not one line for each call:
-    /// then it cannot be seen which line is whose, and less has to be asked at once.
-    pub fn once(&self, calls: &[Call]) -> Option<Vec<String>> {
-        let mut lines = self
-            .run(calls)
+    /// The answers that one run gives, with the planted fault where it shows. None where there is not one line for each: then it
+    /// cannot be seen which answer is whose, and less has to be asked at once. So too where the program has no room for the list.
+    pub fn once(&self, lines: &[Asked]) -> Option<Vec<String>> {
+        let size: usize = lines.iter().map(Asked::size).sum();
+        if size > LARGEST_LIST && lines.len() > 1 {
+            return None;
+        }
+        let mut answers = self
+            .run(lines)
             .unwrap_or_else(|error| panic!("{}: {error}", self.path));
-        if lines.len() != calls.len() {
-            if calls.len() > 1 {
+        if answers.len() != lines.len() {
+            if lines.len() > 1 {
                 return None;
             }
-            lines = vec![format!("{} lines: {}", lines.len(), lines.join("; "))];
+            answers = vec![format!("{} lines: {}", answers.len(), answers.join("; "))];
         }
-        self.plant(calls, &mut lines);
-        Some(lines)
+        self.plant(lines, &mut answers);
+        Some(answers)
     }
 
     /// Puts the fault, if there is one, into the answers in which it shows.
-    fn plant(&self, calls: &[Call], lines: &mut [String]) {
+    fn plant(&self, lines: &[Asked], answers: &mut [String]) {
         let Some(fault) = &self.fault else {
             return;
         };
-        for (call, line) in calls.iter().zip(lines) {
-            let faulty = faults::answer(call, fault);
-            if faulty != call.answer() {
-                *line = joined(&faulty);
+        for (line, answer) in lines.iter().zip(answers) {
+            let faulty = faults::answer(line.line(), fault);
+            if faulty != line.rand {
+                *answer = faulty;
             }
         }
     }
 
-    /// The lines that the program writes for these calls. An end that is not a success counts as one more.
-    fn run(&self, calls: &[Call]) -> io::Result<Vec<String>> {
-        let list: String = calls.iter().map(line).collect();
+    /// The lines that the program writes. Text behind the last of them counts as one more, and so does an end that is no success.
+    fn run(&self, lines: &[Asked]) -> io::Result<Vec<String>> {
+        let list: String = lines.iter().flat_map(|line| [&line.text, "\n"]).collect();
         let mut child = Command::new(&self.path)
             .stdin(Stdio::piped())
             .stdout(Stdio::piped())
@@ -103,32 +151,36 @@ impl Program {
             child.wait_with_output()
         })?;
         let text = String::from_utf8_lossy(&output.stdout);
-        let mut lines: Vec<String> = text.lines().map(str::to_owned).collect();
-        if !output.status.success() {
-            lines.push(output.status.to_string());
+        // Not `lines`: a carriage return is part of an answer, which it makes another.
+        let mut answers: Vec<String> = text.split('\n').map(str::to_owned).collect();
+        if answers.last().is_some_and(String::is_empty) {
+            answers.pop();
         }
-        Ok(lines)
+        if !output.status.success() {
+            answers.push(output.status.to_string());
+        }
+        Ok(answers)
     }
 }
 
 #[cfg(test)]
 mod tests {
-    use reference::call::{Call, Name, joined};
+    use reference::line::Name;
 
-    use super::Program;
+    use super::{Asked, Program};
     use crate::inputs::Source;
     use crate::program::{faults, random};
 
     /// Five lines. Of each program only what it does with lines matters.
     fn answers(program: &str) -> Vec<String> {
-        let calls: Vec<Call> = (0..5).map(Call::SeedFromU64).collect();
+        let lines = (0..5).map(|seed| Asked::new(format!("seed {seed}")));
         let program = Program::new(program, None).expect("the program runs");
-        program.answers(&calls)
+        program.answers(&lines.collect::<Vec<_>>())
     }
 
     #[test]
     fn an_answer_is_a_line() {
-        assert_eq!(answers("cat")[3], "seed_from_u64 3");
+        assert_eq!(answers("cat")[3], "seed 3");
     }
 
     #[test]
@@ -140,15 +192,34 @@ mod tests {
     fn an_end_that_is_no_success_is_an_answer() {
         assert!(answers("false")[4].contains("exit"));
     }
+
+    #[test]
+    fn a_line_may_stand_behind_skipped_ones() {
+        let asked = Asked::new("seed 1".to_owned()).behind("").behind("# a");
+        assert_eq!(asked.text(), "# a\n\nseed 1");
+        assert_eq!(asked.line(), "seed 1");
+        assert_eq!(asked.rand(), Asked::new("seed 1".to_owned()).rand());
+        assert_eq!(asked.size(), 12);
+    }
+
+    /// What one run cannot take is asked in more.
+    #[test]
+    fn a_list_that_is_too_large_is_asked_in_parts() {
+        let lines = vec![Asked::new("seed 1".to_owned()).behind(&"#".repeat(300_000)); 4];
+        let program = Program::new("cat", None).expect("the program runs");
+        assert!(program.once(&lines).is_none());
+        assert_eq!(program.answers(&lines[..2]).len(), 2);
+    }
+
     /// A line of each kind for each fault that it can have, in which the fault shows.
-    fn lines_with_faults() -> Vec<(Call, &'static str)> {
+    fn lines_with_faults() -> Vec<(Asked, &'static str)> {
         let mut lines = Vec::new();
         for name in Name::ALL {
             for fault in faults::of(name) {
                 let mut source = Source::new(1);
-                let mut calls = (0..).map(|_| random::call(name, &mut source, u64::MAX));
-                let call = calls.find(|call| faults::answer(call, fault) != call.answer());
-                lines.extend(call.map(|call| (call, fault)));
+                let mut asked = (0..).map(|_| random::line(name, &mut source).to_string());
+                let shows = |text: &String| faults::shows(text, fault);
+                lines.extend(asked.find(shows).map(|text| (Asked::new(text), fault)));
             }
         }
         lines
@@ -158,17 +229,17 @@ mod tests {
     #[test]
     fn a_planted_fault_is_in_the_answers() {
         let lines = lines_with_faults();
-        let calls: Vec<Call> = lines.iter().map(|(call, _)| call.clone()).collect();
-        let rand: Vec<String> = calls.iter().map(|call| joined(&call.answer())).collect();
+        let asked: Vec<Asked> = lines.iter().map(|(line, _)| line.clone()).collect();
+        let rand: Vec<String> = asked.iter().map(|line| line.rand().to_owned()).collect();
         let planted = |plant| {
             let program = Program::new("true", plant).expect("the program runs");
             let mut answers = rand.clone();
-            program.plant(&calls, &mut answers);
+            program.plant(&asked, &mut answers);
             answers
         };
         assert_eq!(planted(None), rand);
-        for (at, (call, fault)) in lines.iter().enumerate() {
-            assert_ne!(planted(Some(fault))[at], rand[at], "{fault} in {call}");
+        for (at, (line, fault)) in lines.iter().enumerate() {
+            assert_ne!(planted(Some(fault))[at], rand[at], "{fault} in {line:?}");
         }
     }
 }

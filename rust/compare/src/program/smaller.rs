@@ -1,146 +1,351 @@
-//! Lines that count as smaller than another. No chain of them is endless.
+//! Lines that count as smaller than another. No chain of them is endless: the generator is named by bytes, then by a number, and else a
+//! text gets shorter, or a number in it gets smaller, or a list.
 
 use reference::State;
-use reference::call::{Call, Reading};
-use reference::choose_line::Patterned;
-use reference::weights_line::Weighing;
+use reference::call::Call;
+use reference::choose_line::{Choosing, Hints};
+use reference::generator::Generator;
+use reference::line::{Line, Rooms, call, is_skipped};
+use reference::weights_line::{Changed, Looking, Picking};
 
-use crate::fill::SampleFill;
+use super::process::Asked;
+use super::random::is_endless;
+use crate::choose::{self, Choose};
 use crate::inputs::{smaller, smaller_states};
 use crate::kind::Kind;
-use crate::sample::Sample;
-use crate::seeding::{FromSeed, SeedFromU64};
-use crate::shuffle::{PartialShuffle, Shuffle};
-use crate::view::IndexedSamples;
 use crate::weights::lists;
 
+/// The most words of a line of which each is looked at.
+const FEW: usize = 100;
+
+/// A line of more numbers than this only gets shorter: it has too many neighbours to try them all.
+const LONG: usize = 500;
+
+/// Small seeds, to be named in place of bytes.
+const SEEDS: u64 = 8;
+
 /// The lines that are one step smaller than this one.
-pub fn than(call: &Call) -> Vec<Call> {
-    match *call {
-        Call::SeedFromU64(seed) => each(SeedFromU64::smaller(&seed), Call::SeedFromU64),
-        Call::FromSeed(seed) => each(FromSeed::smaller(&seed), Call::FromSeed),
-        Call::Sample(ref call) => each(Sample::smaller(call), Call::Sample),
-        Call::Shuffle(ref call) => each(Shuffle::smaller(call), Call::Shuffle),
-        Call::SampleFill(ref call) => each(SampleFill::smaller(call), Call::SampleFill),
-        Call::WeightedIndex(ref call) => each(weighings(call), Call::WeightedIndex),
-        Call::Choose(ref call) => each(choices(call), Call::Choose),
-        Call::ChooseStable(ref call) => each(choices(call), Call::ChooseStable),
-        Call::IndexedSamples(ref call) => each(IndexedSamples::smaller(call), Call::IndexedSamples),
-        Call::LentWords { from, count } => {
-            repeated(from, count, |from, count| Call::LentWords { from, count })
+pub fn than(asked: &Asked) -> Vec<Asked> {
+    let text = asked.line();
+    let mut texts = Vec::new();
+    if asked.text() != text {
+        texts.push(text.to_owned());
+    }
+    match Line::parse(text) {
+        Some(line) if line.numbers.len() > LONG => {
+            texts.extend(halved(&line).iter().map(Line::to_string));
         }
-        Call::PartialShuffle { ref shuffling, at } => {
-            let mut calls = each(PartialShuffle::smaller(shuffling), |shuffling| {
-                Call::PartialShuffle { shuffling, at }
-            });
-            calls.extend(smaller(at).map(|at| Call::PartialShuffle {
-                shuffling: shuffling.clone(),
-                at,
-            }));
-            calls
+        Some(line) => {
+            texts.extend(lines(&line).iter().map(Line::to_string));
+            texts.extend(spelled(text));
+            // The characters matter where the line is wrong, or written in another way than it need be.
+            if call(text).is_none() || line.to_string() != text {
+                texts.extend(shorter(text));
+            }
         }
-        Call::Read {
-            reading,
-            from,
-            count,
-        } => reads(reading, from, count),
+        None => texts.extend(shorter(text)),
+    }
+    // A text that is written anew may be the same line: it is no smaller one.
+    texts.retain(|less| *less != asked.text() && is_asked(less));
+    texts.into_iter().map(Asked::new).collect()
+}
+
+/// Whether a text can be asked: it is one line, and its call ends.
+fn is_asked(text: &str) -> bool {
+    let is_endless = Line::parse(text).is_some_and(|line| is_endless(&line));
+    !is_endless && !is_skipped(text) && !text.contains('\n')
+}
+
+/// The line with a smaller number and all other words as they are written.
+fn spelled(text: &str) -> Vec<String> {
+    let words: Vec<&str> = text.split(' ').collect();
+    let mut texts = Vec::new();
+    for place in 2..words.len().min(FEW) {
+        let number = words[place].parse().unwrap_or(0);
+        texts.extend(smaller(number).map(|less| {
+            let less = less.to_string();
+            let mut words = words.clone();
+            words[place] = &less;
+            words.join(" ")
+        }));
+    }
+    texts
+}
+
+/// The generator of a line alone, and the text of the line without a word or without a character.
+fn shorter(text: &str) -> Vec<String> {
+    let words: Vec<&str> = text.split(' ').collect();
+    let mut texts = Vec::new();
+    if words.len() > 2 {
+        texts.push(format!("seed {}", words[1]));
+    }
+    for place in 0..words.len().min(FEW) {
+        let (front, back) = (&words[..place], &words[place + 1..]);
+        texts.push([front, back].concat().join(" "));
+    }
+    let places = text.char_indices().take(2 * FEW);
+    texts.extend(places.map(|(place, character)| {
+        let behind = place + character.len_utf8();
+        [&text[..place], &text[behind..]].concat()
+    }));
+    texts
+}
+
+/// A long line with the front or the back of its list, without its last entry, or from the first seed.
+fn halved(line: &Line) -> Vec<Line> {
+    let generator = Generator::Number(0);
+    let seeded = Line {
+        generator,
+        ..line.clone()
+    };
+    let mut lines = vec![seeded];
+    if let Some(call) = unbounded(line) {
+        let halves = match &call {
+            Call::Choose(call) => each(ends(call), Call::Choose),
+            Call::ChooseStable(call) => each(ends(call), Call::ChooseStable),
+            Call::Pick(call) => each(fronts(&call.table), |table| {
+                Call::Pick(Picking {
+                    table,
+                    ..call.clone()
+                })
+            }),
+            Call::Weight(call) => each(fronts(&call.table), |table| {
+                Call::Weight(Looking {
+                    table,
+                    ..call.clone()
+                })
+            }),
+            _ => Vec::new(),
+        };
+        lines.extend(named(line, halves));
+    }
+    lines
+}
+
+/// Choices from the last half of the items and from all but the first, with the hints that they have there.
+fn ends(call: &Choosing) -> Vec<Choosing> {
+    let Hints::Given(lower, upper) = &call.hints else {
+        return Vec::new();
+    };
+    let len = call.items_len;
+    let mut choices = Vec::new();
+    for items_len in [len / 2, len.saturating_sub(1)] {
+        let [lower, upper] = [lower, upper].map(|list| {
+            let gone = (len - items_len).min(list.len());
+            list[gone..].to_vec()
+        });
+        choices.push(Choosing {
+            items_len,
+            hints: Hints::Given(lower, upper),
+            ..call.clone()
+        });
+    }
+    choices
+}
+
+/// Tables of the first half of the weights, of all but the last, and without a change.
+fn fronts(table: &Changed) -> Vec<Changed> {
+    let len = table.weights.len();
+    let mut tables = Vec::new();
+    for len in [len / 2, len.saturating_sub(1)] {
+        let weights = table.weights[..len].to_vec();
+        tables.push(Changed {
+            weights,
+            ..table.clone()
+        });
+    }
+    tables.push(Changed {
+        places: Vec::new(),
+        changes: Vec::new(),
+        ..table.clone()
+    });
+    tables
+}
+
+/// The call of a line, without regard to rooms.
+fn unbounded(line: &Line) -> Option<Call> {
+    let rooms = Rooms {
+        entries: usize::MAX,
+        numbers: usize::MAX,
+    };
+    Call::of(line, rooms)
+}
+
+/// The lines of calls, with the generator named as in this one.
+fn named(line: &Line, calls: Vec<Call>) -> Vec<Line> {
+    let lines = calls.into_iter().map(|call| Line {
+        generator: line.generator,
+        ..call.line()
+    });
+    lines.collect()
+}
+
+/// Lines with smaller lists or with a smaller generator.
+fn lines(line: &Line) -> Vec<Line> {
+    let mut lines = structured(line);
+    lines.extend(generators(line.generator).map(|generator| Line {
+        generator,
+        ..line.clone()
+    }));
+    lines
+}
+
+/// Smaller generators: of a number a smaller one, and of bytes a small number or a smaller state.
+fn generators(generator: Generator) -> Box<dyn Iterator<Item = Generator>> {
+    match generator {
+        Generator::Zero => Box::new([].into_iter()),
+        Generator::Number(seed) => Box::new(smaller(seed).map(Generator::Number)),
+        Generator::Bytes(_) => {
+            let seeds = (0..SEEDS).map(Generator::Number);
+            let states = smaller_states(generator.state()).map(Generator::of_state);
+            Box::new(seeds.chain(states))
+        }
     }
 }
 
-/// So many readings: fewer of them, or of smaller numbers.
-fn reads(reading: Reading, from: State, count: u64) -> Vec<Call> {
-    let read = |reading, from, count| Call::Read {
-        reading,
-        from,
-        count,
+/// Lines with smaller lists of hints, places and weights. The generator is named as before.
+fn structured(line: &Line) -> Vec<Line> {
+    let calls = match unbounded(line) {
+        Some(Call::Choose(call)) => each(choices(&call), Call::Choose),
+        Some(Call::ChooseStable(call)) => each(choices(&call), Call::ChooseStable),
+        Some(Call::Pick(call)) => each(tables(&call.table), |table| {
+            Call::Pick(Picking {
+                table,
+                ..call.clone()
+            })
+        }),
+        Some(Call::Weight(call)) => each(tables(&call.table), |table| {
+            Call::Weight(Looking {
+                table,
+                ..call.clone()
+            })
+        }),
+        _ => Vec::new(),
     };
-    let mut calls = repeated(from, count, |from, count| read(reading, from, count));
-    calls.extend(readings(reading).map(|less| read(less, from, count)));
-    calls
+    named(line, calls)
 }
 
-/// The same so many times from one generator: fewer times, those that are left when some are over, and the same from smaller states.
-fn repeated(from: State, count: u64, make: impl Fn(State, u64) -> Call) -> Vec<Call> {
-    let mut calls = each(1..count, |less| make(from, less));
-    calls.extend((1..count).rev().map(|passed| {
-        let later = after(&make(from, passed));
-        make(later, count - passed)
-    }));
-    calls.extend(smaller_states(from).map(|less| make(less, count)));
-    calls
-}
-
-/// Tables with one list or one number made smaller.
-fn weighings(call: &Weighing) -> Vec<Weighing> {
-    let with = |change: &dyn Fn(&mut Weighing)| {
-        let mut less = call.clone();
-        change(&mut less);
-        less
-    };
-    let weights = lists(&call.weights).into_iter();
-    let mut calls: Vec<Weighing> = weights
-        .map(|less| with(&|call| call.weights = less.clone()))
-        .collect();
-    let places = lists(&call.places).into_iter();
-    calls.extend(places.map(|less| with(&|call| call.places = less.clone())));
-    let changes = lists(&call.changes).into_iter();
-    calls.extend(changes.map(|less| with(&|call| call.changes = less.clone())));
-    calls.extend(smaller(call.sums_len as u64).map(|n| with(&|call| call.sums_len = n as usize)));
-    calls.extend(smaller(call.place).map(|n| with(&|call| call.place = n)));
-    calls.extend(smaller(call.budget).map(|n| with(&|call| call.budget = n)));
-    calls.extend(smaller_states(call.from).map(|from| with(&|call| call.from = from)));
-    calls
-}
-
-/// Choices with one number made smaller.
-fn choices(call: &Patterned) -> Vec<Patterned> {
-    let with = |change: &dyn Fn(&mut Patterned)| {
-        let mut less = call.clone();
-        change(&mut less);
-        less
-    };
-    let feeds = smaller(call.items_len as u64);
-    let mut calls: Vec<Patterned> = feeds
-        .map(|n| with(&|call| call.items_len = n as usize))
-        .collect();
-    calls.extend(smaller(call.pattern).map(|n| with(&|call| call.pattern = n)));
-    calls.extend(smaller(call.budget).map(|n| with(&|call| call.budget = n)));
-    calls.extend(smaller_states(call.from).map(|from| with(&|call| call.from = from)));
-    calls
-}
-
-fn each<T>(inputs: impl IntoIterator<Item = T>, make: impl Fn(T) -> Call) -> Vec<Call> {
+fn each<T>(inputs: Vec<T>, make: impl Fn(T) -> Call) -> Vec<Call> {
     inputs.into_iter().map(make).collect()
 }
 
-/// The state after a call, with which its answer ends.
-fn after(call: &Call) -> State {
-    let answer = call.answer();
-    *answer.last_chunk().expect("an answer ends with a state")
+/// Choices with fewer items or smaller hints, or with hints that are made.
+fn choices(call: &Choosing) -> Vec<Choosing> {
+    let Hints::Given(lower, upper) = &call.hints else {
+        return Vec::new();
+    };
+    let with = |items_len, hints| Choosing {
+        items_len,
+        hints,
+        ..call.clone()
+    };
+    let made = [Hints::None, Hints::Exact].map(|hints| with(call.items_len, hints));
+    let input = choose::Input {
+        from: no_state(),
+        items: vec![0; call.items_len],
+        lower: lower.clone(),
+        upper: upper.clone(),
+        budget: 0,
+    };
+    let inputs = Choose::smaller(&input).into_iter();
+    let given = inputs.map(|less| with(less.items.len(), Hints::Given(less.lower, less.upper)));
+    made.into_iter().chain(given).collect()
 }
 
-/// Draws with a smaller bound or a smaller budget.
-fn readings(reading: Reading) -> Box<dyn Iterator<Item = Reading>> {
-    match reading {
-        Reading::NextU64 | Reading::NextU32 => Box::new([].into_iter()),
-        Reading::RandomRange { r } => Box::new(bounds(r).map(|r| Reading::RandomRange { r })),
-        Reading::RandomRangeWithin { r, budget } => {
-            Box::new(draws(r, budget).map(|(r, budget)| Reading::RandomRangeWithin { r, budget }))
+/// A state that has no smaller ones, for an input of which the lists alone matter.
+fn no_state() -> State {
+    [0; 4]
+}
+
+/// Tables with one list made smaller.
+fn tables(table: &Changed) -> Vec<Changed> {
+    let with = |change: &dyn Fn(&mut Changed)| {
+        let mut less = table.clone();
+        change(&mut less);
+        less
+    };
+    let weights = lists(&table.weights).into_iter();
+    let mut tables: Vec<Changed> = weights
+        .map(|less| with(&|table| table.weights = less.clone()))
+        .collect();
+    let places = lists(&table.places).into_iter();
+    tables.extend(places.map(|less| with(&|table| table.places = less.clone())));
+    let changes = lists(&table.changes).into_iter();
+    tables.extend(changes.map(|less| with(&|table| table.changes = less.clone())));
+    let both = table.places.len().min(table.changes.len());
+    tables.extend((0..both).map(|at| {
+        with(&|table| {
+            table.places.remove(at);
+            table.changes.remove(at);
+        })
+    }));
+    tables
+}
+
+#[cfg(test)]
+mod tests {
+    use reference::line::Name;
+
+    use super::than;
+    use crate::inputs::Source;
+    use crate::program::process::Asked;
+    use crate::program::{faults, random, spoilt};
+
+    /// The smallest line that a fault shows in, from this one on.
+    fn smallest(text: String, fault: &str) -> Asked {
+        let mut found = Asked::new(text);
+        let shows = |asked: &Asked| faults::shows(asked.line(), fault);
+        for _ in 0..1000 {
+            match than(&found).into_iter().find(shows) {
+                Some(less) => found = less,
+                None => return found,
+            }
         }
-        Reading::UniformInt { r, budget } => {
-            Box::new(draws(r, budget).map(|(r, budget)| Reading::UniformInt { r, budget }))
+        panic!("{fault} has an endless chain: {}", found.line());
+    }
+
+    fn first(fault: &str, mut texts: impl Iterator<Item = String>) -> String {
+        let shows = |text: &String| faults::shows(text, fault);
+        texts.find(shows).expect("the fault shows")
+    }
+
+    #[test]
+    fn lines_get_small() {
+        for (name, fault, least) in [
+            (Name::Seed, "answer-generator", "seed 0"),
+            (Name::NextU32, "word-unadvanced", "next_u32 0"),
+            (Name::Sample, "answer-value-more", "sample 0 0 0 0 0 0"),
+            (Name::Shuffle, "shuffle-moves-nothing", "shuffle 0 2"),
+            (Name::Weight, "weight-beyond", "weight 0 1 0 0 0 1"),
+            (Name::Choose, "answer-value-more", "choose 0 0 0 0"),
+        ] {
+            let mut source = Source::new(1);
+            let lines = (0..).map(|_| random::line(name, &mut source).to_string());
+            let text = first(fault, lines);
+            assert_eq!(smallest(text, fault).line(), least, "{fault}");
         }
     }
-}
 
-/// A bound and a budget, of which one is smaller.
-fn draws(r: u32, budget: u64) -> impl Iterator<Item = (u32, u64)> {
-    let budgets = smaller(budget).map(move |less| (r, less));
-    budgets.chain(bounds(r).map(move |less| (less, budget)))
-}
+    #[test]
+    fn texts_get_small() {
+        for fault in faults::of_texts() {
+            let mut source = Source::new(1);
+            let text = first(fault, (0..).map(|_| spoilt::text(&mut source)));
+            let least = smallest(text, fault);
+            // A line with too many numbers has no small one.
+            let most = if fault.starts_with("numbers") {
+                70_000
+            } else {
+                100
+            };
+            assert!(least.line().len() < most, "{fault}: {}", least.line());
+        }
+    }
 
-/// Smaller bounds. 0 is none.
-fn bounds(r: u32) -> impl Iterator<Item = u32> {
-    let numbers = smaller(r.into()).filter(|&less| less > 0);
-    numbers.map(|less| u32::try_from(less).expect("less than a u32"))
+    /// What stands before a line goes first.
+    #[test]
+    fn a_line_gets_rid_of_the_skipped_ones() {
+        let asked = Asked::new("seed 1".to_owned()).behind("# a");
+        assert_eq!(than(&asked)[0].text(), "seed 1");
+    }
 }

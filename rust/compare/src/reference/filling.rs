@@ -14,6 +14,9 @@ pub struct Filling {
     pub buf_len: usize,
 }
 
+/// A way to end a fill from items, which leaves the buffer as it then is.
+pub type Fill = fn(State, &[u32], &mut [u32]) -> Ended;
+
 /// How rand ends a fill.
 pub fn sample_fill(from: State, items: &[u32], buf: &mut [u32]) -> Ended {
     if let Some(number) = refusal(from, items.len()) {

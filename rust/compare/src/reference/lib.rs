@@ -1,22 +1,25 @@
 //! rand's generator, with its state laid open and the words that it gives counted. rand's file is not edited for this.
 //!
-//! With it, rand's answers to the calls of a list: what program `compare` holds a run to and program `list` writes.
+//! With it, rand's answers to the lines of a list: what program `compare` holds a run to and program `list` writes.
 
+pub mod answer;
 pub mod call;
 pub mod choose_line;
 pub mod choosing;
 pub mod coins;
+pub mod draw_line;
 pub mod draws;
 pub mod filling;
-mod hash;
+pub mod generator;
+pub mod line;
 pub mod methods;
+mod number;
 pub mod panics;
 pub mod plain_list;
 pub mod sample_line;
 pub mod sampling;
 pub mod shuffle_line;
 pub mod shuffling;
-pub mod view_line;
 pub mod viewing;
 pub mod weighing;
 pub mod weights_line;
@@ -27,8 +30,6 @@ use std::fmt::{self, Write};
 
 use rand::rngs::Xoshiro256PlusPlus;
 use rand::{SeedableRng, TryRng};
-
-pub use hash::hash;
 
 /// The four words of a generator's state.
 pub type State = [u64; 4];

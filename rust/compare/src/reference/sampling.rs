@@ -51,6 +51,9 @@ impl Ended {
     }
 }
 
+/// A way to end a call of `sample`, which leaves the two slices as they then are.
+pub type End = fn(&Sampling, &mut [u32], &mut [u32]) -> Ended;
+
 /// A way to draw a sample below a length: rand's, or one with a fault in it.
 pub type Drawing<'a> = &'a dyn Fn(&mut Xoshiro256PlusPlus, u32, u32) -> Sample;
 

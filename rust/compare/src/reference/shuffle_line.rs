@@ -1,76 +1,117 @@
-//! The lines of a list that ask for a shuffle or a fill, and the lines that answer them. The items are 0, 1 and so on.
+//! The lines that ask for a shuffle, a part of a slice or a fill, and what they answer. The items are 0, 1 and so on.
 
-use crate::filling::Filling;
-use crate::sample_line::{CANARY, front};
-use crate::sampling::Ended;
-use crate::shuffling::{Shuffling, Whole};
-use crate::{State, hash};
+use crate::State;
+use crate::answer::Answer;
+use crate::filling::{Fill, Filling};
+use crate::sample_line::CANARY;
+use crate::shuffling::Outcome;
 
 /// So many items.
-fn items(len: usize) -> Vec<u32> {
+#[must_use]
+pub fn items(len: usize) -> Vec<u32> {
     (0..).take(len).collect()
 }
 
-/// The state and the numbers behind it.
-fn with_state(from: State, rest: &[u64]) -> Vec<u64> {
-    [&from[..], rest].concat()
+/// The answer to a shuffle that `end` ends: the tail, and the digest of the items.
+pub fn shuffled(len: usize, end: impl FnOnce(&mut [u32]) -> Outcome) -> Answer {
+    let mut items = items(len);
+    let (ended, parts) = end(&mut items);
+    let tail = parts.map_or(0..0, |parts| parts.tail);
+    Answer::new(&ended, &[&items], &items[tail])
 }
 
-/// The numbers of a line that asks for a partial shuffle and its parts at a place.
-pub fn partial_numbers(call: &Shuffling, at: u64) -> Vec<u64> {
-    with_state(call.from, &[call.len as u64, call.amount, at])
+/// A part of the items at a place: `tail G LENGTH N`, `head G LENGTH N`.
+#[derive(Clone, Debug, PartialEq, Eq)]
+pub struct Part {
+    pub from: State,
+    pub len: usize,
+    pub at: u64,
 }
 
-/// The numbers of a line that asks for a shuffle.
-pub fn whole_numbers(call: &Whole) -> Vec<u64> {
-    with_state(call.from, &[call.len as u64])
+/// The part of a slice from a place on or the one before it.
+pub type Parting = fn(&[u32], u64) -> &[u32];
+
+/// The place in so many items. One past them is their end.
+fn place(len: usize, at: u64) -> usize {
+    usize::try_from(at).map_or(len, |at| at.min(len))
 }
 
-/// The numbers of a line that asks for a fill.
-pub fn fill_numbers(call: &Filling) -> Vec<u64> {
-    with_state(call.from, &[call.items_len as u64, call.buf_len as u64])
+/// The part from a place on.
+#[must_use]
+pub fn tail(items: &[u32], at: u64) -> &[u32] {
+    &items[place(items.len(), at)..]
 }
 
-/// The numbers with which all three answers begin.
-fn start(ended: &Ended, entries: &[u32]) -> Vec<u64> {
-    let mut numbers = vec![ended.number, ended.count, ended.words];
-    numbers.extend(front(entries));
-    numbers.push(hash(entries));
-    numbers
+/// The part before a place.
+#[must_use]
+pub fn head(items: &[u32], at: u64) -> &[u32] {
+    &items[..place(items.len(), at)]
 }
 
-/// The answer to a partial shuffle that `end` ends. Its parts are those of the slice afterwards, at any place.
-pub fn partially_shuffled(
-    call: &Shuffling,
-    at: u64,
-    end: impl FnOnce(&mut [u32]) -> Ended,
-) -> Vec<u64> {
-    let mut items = items(call.len);
-    let ended = end(&mut items);
-    let mut numbers = start(&ended, &items);
-    let at = usize::try_from(at).map_or(call.len, |at| at.min(call.len));
-    let (head, tail) = items.split_at(at);
-    for part in [tail, head] {
-        numbers.extend([part.len() as u64, hash(part)]);
+impl Part {
+    /// The answer where this is the part.
+    #[must_use]
+    pub fn answer(&self, part: Parting) -> Answer {
+        Answer::shown(self.from, part(&items(self.len), self.at))
     }
-    numbers.extend(ended.state);
-    numbers
 }
 
-/// The answer to a shuffle that `end` ends.
-pub fn wholly_shuffled(call: &Whole, end: impl FnOnce(&mut [u32]) -> Ended) -> Vec<u64> {
-    let mut items = items(call.len);
-    let ended = end(&mut items);
-    let mut numbers = start(&ended, &items);
-    numbers.extend(ended.state);
-    numbers
-}
-
-/// The answer to a fill that `end` ends.
-pub fn filled(call: &Filling, end: impl FnOnce(&[u32], &mut [u32]) -> Ended) -> Vec<u64> {
+/// The answer to a fill that `fill` ends: the slots filled, and the digest of the buffer.
+#[must_use]
+pub fn filled(call: &Filling, fill: Fill) -> Answer {
     let mut buf = vec![CANARY; call.buf_len];
-    let ended = end(&items(call.items_len), &mut buf);
-    let mut numbers = start(&ended, &buf);
-    numbers.extend(ended.state);
-    numbers
+    let ended = fill(call.from, &items(call.items_len), &mut buf);
+    Answer::new(&ended, &[&buf], &buf[..ended.count as usize])
+}
+
+#[cfg(test)]
+mod tests {
+    use super::{Part, filled, head, shuffled, tail};
+    use crate::answer::digest;
+    use crate::filling::{Filling, sample_fill};
+    use crate::shuffling::{partial_shuffle, shuffle};
+    use crate::words::giving;
+
+    #[test]
+    fn parts_end_with_the_items() {
+        let part = |at| {
+            let part = Part {
+                from: [0; 4],
+                len: 3,
+                at,
+            };
+            [part.answer(tail), part.answer(head)].map(|answer| answer.values)
+        };
+        assert_eq!(part(0), [vec![0, 1, 2], vec![]]);
+        assert_eq!(part(2), [vec![2], vec![0, 1]]);
+        assert_eq!(part(3), [vec![], vec![0, 1, 2]]);
+        assert_eq!(part(u64::MAX), part(3));
+    }
+
+    /// The word 63 gives chunk 7, which turns three items round.
+    #[test]
+    fn a_shuffle_shows_its_tail() {
+        let from = giving(63, 0, 1);
+        let whole = shuffled(3, |items| shuffle(from, items));
+        assert_eq!((whole.values.as_slice(), whole.words), (&[2, 1, 0][..], 1));
+        assert_eq!(whole.digest, digest(&[&[2, 1, 0]]));
+        let none = shuffled(3, |items| partial_shuffle(from, 0, items));
+        assert_eq!((none.values.as_slice(), none.words), (&[][..], 0));
+        assert_eq!(none.digest, digest(&[&[0, 1, 2]]));
+        let refused = shuffled(3, |items| shuffle([0; 4], items));
+        assert_eq!((refused.values.as_slice(), refused.number), (&[][..], 12));
+        assert_eq!(refused.digest, none.digest);
+    }
+
+    #[test]
+    fn a_fill_shows_the_slots_that_are_filled() {
+        let call = Filling {
+            from: [1, 2, 3, 4],
+            items_len: 2,
+            buf_len: 3,
+        };
+        let answer = filled(&call, sample_fill);
+        assert_eq!((answer.values.as_slice(), answer.words), (&[0, 1][..], 0));
+        assert_eq!(answer.digest, digest(&[&[0, 1, u32::MAX]]));
+    }
 }

@@ -50,6 +50,12 @@ impl Parts {
 /// How a shuffle ends, and the parts that it lends where it is not refused.
 pub type Outcome = (Ended, Option<Parts>);
 
+/// A way to end a partial shuffle of an amount.
+pub type PartialShuffle = fn(State, u64, &mut [u32]) -> Outcome;
+
+/// A way to end a shuffle.
+pub type Shuffle = fn(State, &mut [u32]) -> Outcome;
+
 /// The number with which a shuffle or a fill of so many items is refused, if it is. rand has no such generator, and draws in
 /// another way from more items.
 #[must_use]

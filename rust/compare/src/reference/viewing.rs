@@ -61,14 +61,6 @@ impl Walk {
     pub fn items(&self) -> Vec<u32> {
         self.steps.iter().map_while(|&(item, _)| item).collect()
     }
-
-    /// How many items remain at the first step without one, and whether all steps after it are without one too.
-    #[must_use]
-    pub fn end(&self) -> (u64, bool) {
-        let rest = &self.steps[self.items().len()..];
-        let len = rest.first().map_or(0, |&(_, len)| len);
-        (len, rest.iter().all(|(item, _)| item.is_none()))
-    }
 }
 
 /// A way to draw a view of the items, which are as many as the length says, and to run through it. The two slices are those of the indices
@@ -129,9 +121,8 @@ mod tests {
         let past = [(None, 0); 3];
         assert_eq!(walk.steps[..2], [(Some(5), 1), (Some(6), 0)]);
         assert_eq!((walk.len, &walk.steps[2..]), (2, &past[..]));
-        assert_eq!((walk.items(), walk.end()), (vec![5, 6], (0, true)));
-        let none = Walk::default();
-        assert_eq!((none.items(), none.end()), (vec![], (0, true)));
+        assert_eq!(walk.items(), [5, 6]);
+        assert_eq!(Walk::default().items(), []);
     }
 
     #[test]

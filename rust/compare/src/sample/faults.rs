@@ -3,9 +3,7 @@
 use rand::rngs::Xoshiro256PlusPlus;
 use reference::draws::{Draws, RAND, bounded, one_too_low, rejecting};
 use reference::methods::{Method, Sample, by_rand, draw, due};
-use reference::sampling::{Ended, Sampling};
-
-use super::End;
+use reference::sampling::{End, Ended, Sampling};
 
 /// The names of the faults.
 pub const NAMES: [&str; 7] = [

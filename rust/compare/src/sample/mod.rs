@@ -7,7 +7,7 @@ pub mod fixed;
 pub mod port;
 pub mod random;
 
-use reference::sampling::{Ended, Sampling};
+use reference::sampling::{End, Ended, Sampling};
 
 use crate::inputs::{Source, smaller, smaller_states};
 use crate::kind::Kind;
@@ -26,9 +26,6 @@ pub struct Answer {
     pub indices: Lent,
     pub scratch: Lent,
 }
-
-/// A way to end a call.
-pub type End = fn(&Sampling, &mut [u32], &mut [u32]) -> Ended;
 
 impl Answer {
     /// The answer where `end` ends the call and leaves the slices as they then are.

@@ -26,23 +26,3 @@ pub fn end(call: &Sampling, indices: &mut [u32], scratch: &mut [u32]) -> Ended {
         state: rng.state(),
     }
 }
-
-#[cfg(test)]
-mod tests {
-    use reference::call::joined;
-    use reference::sample_line::sampled;
-
-    use super::end;
-    use crate::listed::lines;
-
-    #[test]
-    fn the_port_gives_the_answers_of_the_list() {
-        let lines = lines("sample");
-        assert!(lines.len() > 100, "{} samples in the list", lines.len());
-        for listed in lines {
-            let call = listed.sampling();
-            let port = sampled(&call, |indices, scratch| end(&call, indices, scratch));
-            assert_eq!(joined(&port), listed.answer, "{}", listed.line);
-        }
-    }
-}

@@ -7,23 +7,23 @@ pub mod port;
 mod random;
 
 use reference::sampling::Ended;
-use reference::shuffling::{Outcome, Parts, Shuffling, Whole, partial_shuffle, shuffle};
+use reference::shuffling::{self, Outcome, Parts, Shuffling, Whole, partial_shuffle, shuffle};
 
 use crate::inputs::{Source, smaller, smaller_states};
 use crate::kind::Kind;
 use crate::slices::Lent;
-use faults::{Fault, MOVES_NOTHING, OFF_BY_ONE};
+use faults::{MOVES_NOTHING, OFF_BY_ONE, moves_nothing, tail_off_by_one};
 
 pub use random::length;
 
 /// Calls of `partial_shuffle`, each from a generator of its own.
 pub struct PartialShuffle {
-    fault: Option<Fault>,
+    pub end: shuffling::PartialShuffle,
 }
 
 /// Calls of `shuffle`, each from a generator of its own.
 pub struct Shuffle {
-    fault: Option<Fault>,
+    pub end: shuffling::Shuffle,
 }
 
 /// All that is left of a call.
@@ -56,10 +56,15 @@ impl Kind for PartialShuffle {
 
     fn new(plant: Option<&str>) -> Self {
         Self {
-            fault: match plant {
-                Some(MOVES_NOTHING) => Some(faults::moves_nothing),
-                Some(OFF_BY_ONE) => Some(faults::tail_off_by_one),
-                _ => None,
+            end: match plant {
+                Some(MOVES_NOTHING) => |from, amount, items| {
+                    moves_nothing(items, |items| port::partial_shuffle(from, amount, items))
+                },
+                Some(OFF_BY_ONE) => |from, amount, items| {
+                    let outcome = port::partial_shuffle(from, amount, items);
+                    tail_off_by_one(outcome, items.len())
+                },
+                _ => port::partial_shuffle,
             },
         }
     }
@@ -88,37 +93,7 @@ impl Kind for PartialShuffle {
     }
 
     fn port(&self, call: &Shuffling) -> Answer {
-        Answer::new(call.len, |items| self.end(call, items))
-    }
-}
-
-impl PartialShuffle {
-    /// How the port ends a call, with the planted fault.
-    pub fn end(&self, call: &Shuffling, items: &mut [u32]) -> Outcome {
-        end(self.fault, items, |items| {
-            port::partial_shuffle(call.from, call.amount, items)
-        })
-    }
-}
-
-impl Shuffle {
-    /// How the port ends a call, with the planted fault.
-    pub fn end(&self, call: &Whole, items: &mut [u32]) -> Outcome {
-        end(self.fault, items, |items| port::shuffle(call.from, items))
-    }
-}
-
-/// How a call on the items ends where this fault is planted.
-fn end(
-    fault: Option<Fault>,
-    items: &mut [u32],
-    call: impl FnOnce(&mut [u32]) -> Outcome,
-) -> Outcome {
-    let before = fault.map(|_| items.to_vec());
-    let outcome = call(items);
-    match (fault, before) {
-        (Some(fault), Some(before)) => fault(outcome, &before, items),
-        _ => outcome,
+        Answer::new(call.len, |items| (self.end)(call.from, call.amount, items))
     }
 }
 
@@ -129,9 +104,13 @@ impl Kind for Shuffle {
     type Answer = Answer;
 
     fn new(plant: Option<&str>) -> Self {
-        let moves_nothing: Fault = faults::moves_nothing;
         Self {
-            fault: (plant == Some(MOVES_NOTHING)).then_some(moves_nothing),
+            end: match plant {
+                Some(MOVES_NOTHING) => {
+                    |from, items| moves_nothing(items, |items| port::shuffle(from, items))
+                }
+                _ => port::shuffle,
+            },
         }
     }
 
@@ -158,6 +137,6 @@ impl Kind for Shuffle {
     }
 
     fn port(&self, call: &Whole) -> Answer {
-        Answer::new(call.len, |items| self.end(call, items))
+        Answer::new(call.len, |items| (self.end)(call.from, items))
     }
 }

@@ -51,22 +51,3 @@ fn refused(error: SampleError, state: State) -> Ended {
         state,
     }
 }
-
-#[cfg(test)]
-mod tests {
-    use reference::call::joined;
-    use reference::view_line::viewed;
-
-    use super::view;
-    use crate::listed::lines;
-
-    #[test]
-    fn the_port_gives_the_views_of_the_list() {
-        let lines = lines("indexed_samples");
-        assert!(lines.len() > 40, "{} in the list", lines.len());
-        for listed in lines {
-            let port = viewed(&listed.sampling(), view);
-            assert_eq!(joined(&port), listed.answer, "{}", listed.line);
-        }
-    }
-}

@@ -40,7 +40,7 @@ pub struct Input {
 /// What is seen of a call.
 #[derive(Debug, PartialEq)]
 enum Seen {
-    /// How the change ends, the record afterwards, and the hash of the slice of the sums.
+    /// How the change ends, the record afterwards, and the digest of the slice of the sums.
     Change(Changed, Record, u64),
     Lookup(Looked),
     Pick(Ended),
@@ -275,7 +275,7 @@ fn seen(table: &mut impl Table, sums: &mut Lent, state: &mut State, step: &Step)
     match step {
         Step::Change { places, weights } => {
             let ended = table.update_weights(sums.entries(), places, weights);
-            Seen::Change(ended, table.record(), sums.hash())
+            Seen::Change(ended, table.record(), sums.digest())
         }
         Step::Lookup { place } => Seen::Lookup(table.weight(sums.entries(), *place)),
         Step::Pick { budget } => {

@@ -71,23 +71,3 @@ pub fn pick(from: State, of: Record, lent: &[u32], budget: u64) -> Ended {
         state: rng.state(),
     }
 }
-
-#[cfg(test)]
-mod tests {
-    use reference::call::joined;
-    use reference::weights_line::Weighing;
-
-    use crate::listed::lines;
-    use crate::weights::PORT;
-
-    #[test]
-    fn the_port_gives_the_tables_of_the_list() {
-        let lines = lines("weighted_index");
-        assert!(lines.len() > 80, "{} in the list", lines.len());
-        for listed in lines {
-            let weighing = Weighing::from_numbers(listed.from, &listed.numbers);
-            let port = weighing.answer(&PORT);
-            assert_eq!(joined(&port), listed.answer, "{}", listed.line);
-        }
-    }
-}

@@ -1,0 +1,14 @@
+pub mod Progressions
+pub mod Digests
+pub mod Narrowed
+pub mod Replies
+pub mod Draws
+pub mod Samples
+pub mod Sized
+pub mod Fronts
+pub mod PicksInARow
+pub mod MadeTables
+pub mod ToldTables
+pub mod HintsPut
+pub mod Choices
+pub mod Shuffles

@@ -1,2 +1,0 @@
-pub mod Full
-pub mod Picks

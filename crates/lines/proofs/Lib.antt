@@ -1,0 +1,5 @@
+pub mod Rows
+pub mod Fitting
+pub mod Seeding
+pub mod Calling
+pub mod Lines

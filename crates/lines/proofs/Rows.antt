@@ -1,0 +1,140 @@
+-- The rows of the table, by their places.
+-- Assumes nothing.
+use mathlib.Core.Path.{_≡_, refl, ap}
+use mathlib.Core.List.{List}
+use mathlib.Core.Option.{Option}
+use Prim.Native.Nat.{ℕ}
+use Rattle.xoshiro256plusplus.specs.declared.Xoshiro256PlusPlus.{Xoshiro256PlusPlus}
+use Rattle.calls.specs.Means.{seedMeans, outputMeans, wordMeans, boundedMeans, rejectingMeans, sampleMeans, partialMeans, shuffleMeans, tailMeans, headMeans, fillMeans, viewMeans, chooseMeans, chooseStableMeans, pickMeans, weightMeans}
+use Rattle.calls.specs.Sizes.{Entries, entries, at, exactly, drawSizes, choiceSizes, tableSizes}
+use Rattle.calls.specs.Told.{Told}
+use Rattle.lines.specs.Meaning.{Call, calls, callAt}
+
+module _ (k : ℕ) where
+  pub sizes-0 : k ≡ 0 → (ns : List ℕ) → callAt k .sizes ns ≡ exactly 0 ns (entries 0 0 0 0)
+  unfolding callAt calls
+  sizes-0 e ns = ap (λ (j : ℕ). callAt j .sizes ns) e
+
+  pub sizes-1 : k ≡ 1 → (ns : List ℕ) → callAt k .sizes ns ≡ exactly 0 ns (entries 2 0 0 0)
+  unfolding callAt calls
+  sizes-1 e ns = ap (λ (j : ℕ). callAt j .sizes ns) e
+
+  pub sizes-2 : k ≡ 2 → (ns : List ℕ) → callAt k .sizes ns ≡ exactly 0 ns (entries 1 0 0 0)
+  unfolding callAt calls
+  sizes-2 e ns = ap (λ (j : ℕ). callAt j .sizes ns) e
+
+  pub sizes-3 : k ≡ 3 → (ns : List ℕ) → callAt k .sizes ns ≡ drawSizes ns
+  unfolding callAt calls
+  sizes-3 e ns = ap (λ (j : ℕ). callAt j .sizes ns) e
+
+  pub sizes-4 : k ≡ 4 → (ns : List ℕ) → callAt k .sizes ns ≡ drawSizes ns
+  unfolding callAt calls
+  sizes-4 e ns = ap (λ (j : ℕ). callAt j .sizes ns) e
+
+  pub sizes-5 : k ≡ 5 → (ns : List ℕ) → callAt k .sizes ns ≡ exactly 5 ns (entries (at ns 3) (at ns 4) 0 0)
+  unfolding callAt calls
+  sizes-5 e ns = ap (λ (j : ℕ). callAt j .sizes ns) e
+
+  pub sizes-6 : k ≡ 6 → (ns : List ℕ) → callAt k .sizes ns ≡ exactly 2 ns (entries (at ns 0) 0 0 0)
+  unfolding callAt calls
+  sizes-6 e ns = ap (λ (j : ℕ). callAt j .sizes ns) e
+
+  pub sizes-7 : k ≡ 7 → (ns : List ℕ) → callAt k .sizes ns ≡ exactly 1 ns (entries (at ns 0) 0 0 0)
+  unfolding callAt calls
+  sizes-7 e ns = ap (λ (j : ℕ). callAt j .sizes ns) e
+
+  pub sizes-8 : k ≡ 8 → (ns : List ℕ) → callAt k .sizes ns ≡ exactly 2 ns (entries (at ns 0) (at ns 0) 0 0)
+  unfolding callAt calls
+  sizes-8 e ns = ap (λ (j : ℕ). callAt j .sizes ns) e
+
+  pub sizes-9 : k ≡ 9 → (ns : List ℕ) → callAt k .sizes ns ≡ exactly 2 ns (entries (at ns 0) (at ns 0) 0 0)
+  unfolding callAt calls
+  sizes-9 e ns = ap (λ (j : ℕ). callAt j .sizes ns) e
+
+  pub sizes-10 : k ≡ 10 → (ns : List ℕ) → callAt k .sizes ns ≡ exactly 2 ns (entries (at ns 1) (at ns 0) 0 0)
+  unfolding callAt calls
+  sizes-10 e ns = ap (λ (j : ℕ). callAt j .sizes ns) e
+
+  pub sizes-11 : k ≡ 11 → (ns : List ℕ) → callAt k .sizes ns ≡ exactly 5 ns (entries (at ns 3) (at ns 0) (at ns 3) (at ns 4))
+  unfolding callAt calls
+  sizes-11 e ns = ap (λ (j : ℕ). callAt j .sizes ns) e
+
+  pub sizes-12 : k ≡ 12 → (ns : List ℕ) → callAt k .sizes ns ≡ choiceSizes ns
+  unfolding callAt calls
+  sizes-12 e ns = ap (λ (j : ℕ). callAt j .sizes ns) e
+
+  pub sizes-13 : k ≡ 13 → (ns : List ℕ) → callAt k .sizes ns ≡ choiceSizes ns
+  unfolding callAt calls
+  sizes-13 e ns = ap (λ (j : ℕ). callAt j .sizes ns) e
+
+  pub sizes-14 : k ≡ 14 → (ns : List ℕ) → callAt k .sizes ns ≡ tableSizes 5 (at ns 0) ns
+  unfolding callAt calls
+  sizes-14 e ns = ap (λ (j : ℕ). callAt j .sizes ns) e
+
+  pub sizes-15 : k ≡ 15 → (ns : List ℕ) → callAt k .sizes ns ≡ tableSizes 4 1 ns
+  unfolding callAt calls
+  sizes-15 e ns = ap (λ (j : ℕ). callAt j .sizes ns) e
+
+  pub means-0 : k ≡ 0 → (g : Xoshiro256PlusPlus) (ns : List ℕ) (e : Entries) → callAt k .means g ns e ≡ seedMeans g ns e
+  unfolding callAt calls
+  means-0 f g ns e = ap (λ (j : ℕ). callAt j .means g ns e) f
+
+  pub means-1 : k ≡ 1 → (g : Xoshiro256PlusPlus) (ns : List ℕ) (e : Entries) → callAt k .means g ns e ≡ outputMeans g ns e
+  unfolding callAt calls
+  means-1 f g ns e = ap (λ (j : ℕ). callAt j .means g ns e) f
+
+  pub means-2 : k ≡ 2 → (g : Xoshiro256PlusPlus) (ns : List ℕ) (e : Entries) → callAt k .means g ns e ≡ wordMeans g ns e
+  unfolding callAt calls
+  means-2 f g ns e = ap (λ (j : ℕ). callAt j .means g ns e) f
+
+  pub means-3 : k ≡ 3 → (g : Xoshiro256PlusPlus) (ns : List ℕ) (e : Entries) → callAt k .means g ns e ≡ boundedMeans g ns e
+  unfolding callAt calls
+  means-3 f g ns e = ap (λ (j : ℕ). callAt j .means g ns e) f
+
+  pub means-4 : k ≡ 4 → (g : Xoshiro256PlusPlus) (ns : List ℕ) (e : Entries) → callAt k .means g ns e ≡ rejectingMeans g ns e
+  unfolding callAt calls
+  means-4 f g ns e = ap (λ (j : ℕ). callAt j .means g ns e) f
+
+  pub means-5 : k ≡ 5 → (g : Xoshiro256PlusPlus) (ns : List ℕ) (e : Entries) → callAt k .means g ns e ≡ sampleMeans g ns e
+  unfolding callAt calls
+  means-5 f g ns e = ap (λ (j : ℕ). callAt j .means g ns e) f
+
+  pub means-6 : k ≡ 6 → (g : Xoshiro256PlusPlus) (ns : List ℕ) (e : Entries) → callAt k .means g ns e ≡ partialMeans g ns e
+  unfolding callAt calls
+  means-6 f g ns e = ap (λ (j : ℕ). callAt j .means g ns e) f
+
+  pub means-7 : k ≡ 7 → (g : Xoshiro256PlusPlus) (ns : List ℕ) (e : Entries) → callAt k .means g ns e ≡ shuffleMeans g ns e
+  unfolding callAt calls
+  means-7 f g ns e = ap (λ (j : ℕ). callAt j .means g ns e) f
+
+  pub means-8 : k ≡ 8 → (g : Xoshiro256PlusPlus) (ns : List ℕ) (e : Entries) → callAt k .means g ns e ≡ tailMeans g ns e
+  unfolding callAt calls
+  means-8 f g ns e = ap (λ (j : ℕ). callAt j .means g ns e) f
+
+  pub means-9 : k ≡ 9 → (g : Xoshiro256PlusPlus) (ns : List ℕ) (e : Entries) → callAt k .means g ns e ≡ headMeans g ns e
+  unfolding callAt calls
+  means-9 f g ns e = ap (λ (j : ℕ). callAt j .means g ns e) f
+
+  pub means-10 : k ≡ 10 → (g : Xoshiro256PlusPlus) (ns : List ℕ) (e : Entries) → callAt k .means g ns e ≡ fillMeans g ns e
+  unfolding callAt calls
+  means-10 f g ns e = ap (λ (j : ℕ). callAt j .means g ns e) f
+
+  pub means-11 : k ≡ 11 → (g : Xoshiro256PlusPlus) (ns : List ℕ) (e : Entries) → callAt k .means g ns e ≡ viewMeans g ns e
+  unfolding callAt calls
+  means-11 f g ns e = ap (λ (j : ℕ). callAt j .means g ns e) f
+
+  pub means-12 : k ≡ 12 → (g : Xoshiro256PlusPlus) (ns : List ℕ) (e : Entries) → callAt k .means g ns e ≡ chooseMeans g ns e
+  unfolding callAt calls
+  means-12 f g ns e = ap (λ (j : ℕ). callAt j .means g ns e) f
+
+  pub means-13 : k ≡ 13 → (g : Xoshiro256PlusPlus) (ns : List ℕ) (e : Entries) → callAt k .means g ns e ≡ chooseStableMeans g ns e
+  unfolding callAt calls
+  means-13 f g ns e = ap (λ (j : ℕ). callAt j .means g ns e) f
+
+  pub means-14 : k ≡ 14 → (g : Xoshiro256PlusPlus) (ns : List ℕ) (e : Entries) → callAt k .means g ns e ≡ pickMeans g ns e
+  unfolding callAt calls
+  means-14 f g ns e = ap (λ (j : ℕ). callAt j .means g ns e) f
+
+  pub means-15 : k ≡ 15 → (g : Xoshiro256PlusPlus) (ns : List ℕ) (e : Entries) → callAt k .means g ns e ≡ weightMeans g ns e
+  unfolding callAt calls
+  means-15 f g ns e = ap (λ (j : ℕ). callAt j .means g ns e) f

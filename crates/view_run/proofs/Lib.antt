@@ -1,0 +1,4 @@
+pub mod MeetOfLifetimes
+pub mod SliceBack
+pub mod Turns
+pub mod ViewRuns

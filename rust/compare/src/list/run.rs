@@ -1,0 +1,91 @@
+//! A long mixed run of the list: one generator for calls of every kind.
+
+use reference::State;
+use reference::call::Call;
+use reference::choose_line::{Choosing, Hints, hints};
+use reference::draw_line::Bounded;
+use reference::filling::Filling;
+use reference::sampling::Sampling;
+use reference::shuffling::{Shuffling, Whole};
+use reference::some_state;
+use reference::weights_line::{Changed, Picking};
+
+use crate::contents::{Section, chained};
+
+/// The calls of the run.
+const CALLS: u64 = 240;
+
+/// The run.
+pub fn section() -> Section {
+    let calls = (0..CALLS).map(|number| move |from| call(from, number));
+    Section::new(
+        "A run of one generator through calls of every kind",
+        chained(some_state(17), calls),
+    )
+}
+
+/// The call at a place of the run. Its sizes go up and down with the place.
+fn call(from: State, number: u64) -> Call {
+    let length = number * 37 % 61;
+    let amount = number * 11 % (length + 1);
+    let budget = u64::MAX;
+    let len = length as usize;
+    match number % 12 {
+        0 => Call::Sample(sampling(from, length, amount)),
+        1 => Call::IndexedSamples(sampling(from, length, amount)),
+        2 => Call::PartialShuffle(Shuffling { from, len, amount }),
+        3 => Call::Shuffle(Whole { from, len }),
+        4 => Call::SampleFill(Filling {
+            from,
+            items_len: len,
+            buf_len: amount as usize,
+        }),
+        5 => Call::Choose(choosing(from, len, hints(7, len))),
+        6 => Call::ChooseStable(choosing(from, len, hints(2, len))),
+        7 => Call::Pick(picking(from, number)),
+        8 => Call::NextU32(from),
+        9 => Call::NextU64(from),
+        10 => {
+            let r = u32::MAX / (number as u32 + 1);
+            Call::RandomRange(Bounded { from, r, budget })
+        }
+        _ => {
+            let r = (1 << 31) + number as u32;
+            Call::UniformInt(Bounded { from, r, budget })
+        }
+    }
+}
+
+fn sampling(from: State, length: u64, amount: u64) -> Sampling {
+    Sampling {
+        from,
+        length,
+        amount,
+        budget: amount * 10,
+        indices_len: amount as usize,
+        scratch_len: length as usize,
+    }
+}
+
+fn choosing(from: State, items_len: usize, (lower, upper): (Vec<u32>, Vec<u32>)) -> Choosing {
+    Choosing {
+        from,
+        items_len,
+        budget: u64::MAX,
+        hints: Hints::Given(lower, upper),
+    }
+}
+
+fn picking(from: State, number: u64) -> Picking {
+    Picking {
+        from,
+        picks: 3,
+        budget: 100,
+        table: Changed {
+            sums_len: 3,
+            places: vec![1],
+            changes: vec![number as u32],
+            weights: vec![3, 0, 5, 1 << 31],
+        },
+    }
+}
