@@ -5,7 +5,7 @@ use mathlib.Core.List.{List, [], _∷_, map}
 use mathlib.Core.Option.{Option, none, some}
 use Prim.Native.Nat.{ℕ, _+_, _-_, _≤_, _<_}
 use native.Mathlib.Omega.{arith}
-use lib.ListN.{length, take, drop, List·getD-eq-default}
+use lib.ListN.{length, take, drop}
 use Rattle.xoshiro256plusplus.specs.declared.Xoshiro256PlusPlus.{Xoshiro256PlusPlus}
 use Rattle.command_line.specs.Fields.{bytesFrom, ascii, inFront, cut, placeIn, fieldsFrom, FieldEnd}
 use Rattle.command_line.specs.Numbers.{numbersOf, within}
@@ -13,9 +13,12 @@ use Rattle.command_line.specs.Seed.{generatorOf}
 use Rattle.command_line.specs.declared.seed.Seed.{Seed}
 use Rattle.command_line.specs.declared.seed.Seed.the-variants.{Generator, NoSeed}
 use Rattle.command_line.proofs.Cutting.{past, up-to}
-use Rattle.calls.specs.Sizes.{Entries}
-use Rattle.calls.specs.Told.{Told}
-use Rattle.lines.specs.Meaning.{Call, call, calls, no-call, callAt, made, meant, meaningOf, meaning}
+use Rattle.lines.specs.Sizes.{Entries}
+use Rattle.lines.specs.Told.{Told}
+use Rattle.lines.specs.Asked.{asked, Asks}
+use Rattle.lines.specs.Meaning.{Call, calls, callAt, made, meant, meaningOf, meaning}
+use Rattle.lines.specs.declared.request.Request.{Request}
+use Rattle.lines.proofs.Rows.{past-table}
 
 -- the names of the calls, as the code has them
 abbrev pub names : List ℕ
@@ -25,16 +28,10 @@ named : map (λ (c : Call). c .name) calls ≡ cut 32 names
 unfolding calls ascii bytesFrom cut inFront
 named = refl
 
--- past the table there is no call
-past-table : (k : ℕ) → 16 ≤ k → callAt k ≡ no-call
-unfolding callAt calls
-past-table k h = List·getD-eq-default calls no-call {n = k} h
-
-no-meaning : (room : Entries) (s : Seed) (ns : Option (List ℕ)) → meant room no-call s ns ≡ none
-unfolding meant made
-no-meaning room NoSeed ns = refl
-no-meaning room (Generator g) none = refl
-no-meaning room (Generator g) (some ns) = refl
+-- a request past the table means nothing
+nothing-asked : (q : Request) (room : Entries) (slice : List ℕ) → q .call ≡ 16 → asked room q slice ≡ none
+unfolding asked made
+nothing-asked q room slice e = rw (past-table (q .call) (omega arith))
 
 module _ (room : Entries) (n : ℕ) (line : List ℕ) (end : ℕ) (first : FieldEnd 32 line 0 end) where
   whole : cut 32 line ≡ take end line ∷ fieldsFrom 32 (end + 1) line
@@ -59,10 +56,6 @@ module _ (room : Entries) (n : ℕ) (line : List ℕ) (end : ℕ) (first : Field
       by-place : meaning room n line ≡ meant room (callAt k) (generatorOf word) (within n (numbersOf (fieldsFrom 32 (stop + 1) line)))
       by-place = fields ∙ ap (λ (j : ℕ). meant room (callAt j) (generatorOf word) (within n (numbersOf (fieldsFrom 32 (stop + 1) line)))) (sym place)
 
-      -- a name of no call
-      pub unnamed : 16 ≤ k → meaning room n line ≡ none
-      unnamed h = by-place ∙ rw (past-table k h) (no-meaning room (generatorOf word) (within n (numbersOf (fieldsFrom 32 (stop + 1) line))))
-
       -- no generator
       pub unseeded : NoSeed ≡ generatorOf word → meaning room n line ≡ none
       unfolding meant
@@ -77,3 +70,13 @@ module _ (room : Entries) (n : ℕ) (line : List ℕ) (end : ℕ) (first : Field
         pub numbered : (ns : List ℕ) → some ns ≡ within n (numbersOf (fieldsFrom 32 (stop + 1) line)) → meaning room n line ≡ made room (callAt k .sizes ns) (callAt k .means g ns)
         unfolding meant
         numbered ns e = by-place ∙ rw (← seed, ← e)
+
+-- ---- what a request says
+
+module _ (q : Request) (slice : List ℕ) (n : ℕ) (line : List ℕ) where
+  pub asks-nothing : (q .call ≡ 16) × (q .count ≡ 0) → ((room : Entries) → meaning room n line ≡ none) → Asks q slice n line
+  asks-nothing e no-meaning = record { says = λ room. nothing-asked q room slice (e .0) ∙ sym (no-meaning room); lies = omega (arith, e .1) }
+
+  pub asks : q .count ≤ length slice → ((room : Entries) → meaning room n line ≡ made room (callAt (q .call) .sizes (take (q .count) slice)) (callAt (q .call) .means (q .rng) (take (q .count) slice))) → Asks q slice n line
+  unfolding asked
+  asks h means = record { says = λ room. sym (means room); lies = h }

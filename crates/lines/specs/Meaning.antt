@@ -1,9 +1,8 @@
 -- What a line means.
-use mathlib.Core.Path.{_≡_}
-use mathlib.Core.Bool.{Bool, cond, _&&_}
+use mathlib.Core.Bool.{Bool, true, false, cond, _&&_}
 use mathlib.Core.List.{List, [], _∷_, map}
 use mathlib.Core.Option.{Option, none, some}
-use Prim.Native.Nat.{ℕ, _≤_, _<_, _^_}
+use Prim.Native.Nat.{ℕ}
 use lib.Dec.{leb}
 use lib.ListN.{getD}
 use Rattle.xoshiro256plusplus.specs.declared.Xoshiro256PlusPlus.{Xoshiro256PlusPlus}
@@ -12,9 +11,9 @@ use Rattle.command_line.specs.Numbers.{numbersOf, within}
 use Rattle.command_line.specs.Seed.{generatorOf}
 use Rattle.command_line.specs.declared.seed.Seed.{Seed}
 use Rattle.command_line.specs.declared.seed.Seed.the-variants.{Generator, NoSeed}
-use Rattle.calls.specs.Sizes.{Entries, entries, at, exactly, drawSizes, choiceSizes, tableSizes}
-use Rattle.calls.specs.Told.{Told}
-use Rattle.calls.specs.Means.{Meaning, seedMeans, outputMeans, wordMeans, boundedMeans, rejectingMeans, sampleMeans, viewMeans, partialMeans, shuffleMeans, tailMeans, headMeans, fillMeans, chooseMeans, chooseStableMeans, pickMeans, weightMeans}
+use Rattle.lines.specs.Sizes.{Entries, entries, at, exactly, drawSizes, choiceSizes, tableSizes}
+use Rattle.lines.specs.Told.{Told}
+use Rattle.lines.specs.Means.{Meaning, seedMeans, outputMeans, wordMeans, boundedMeans, rejectingMeans, sampleMeans, viewMeans, partialMeans, shuffleMeans, tailMeans, headMeans, fillMeans, choiceMeans, pickMeans, weightMeans}
 
 -- a call: its name, how many entries of each slice its numbers ask for, and what it means
 pub record Call : Type 0 where
@@ -28,22 +27,22 @@ call name sizes means = record { name = name; sizes = sizes; means = means }
 -- the calls
 unfoldable pub calls : List Call
 calls =
-    call (ascii "seed") (λ ns. exactly 0 ns (entries 0 0 0 0)) seedMeans
+    call (ascii "seed") (λ ns. exactly 0 ns (entries 2 0 0 0)) seedMeans
     ∷ call (ascii "next_u64") (λ ns. exactly 0 ns (entries 2 0 0 0)) outputMeans
-    ∷ call (ascii "next_u32") (λ ns. exactly 0 ns (entries 1 0 0 0)) wordMeans
+    ∷ call (ascii "next_u32") (λ ns. exactly 0 ns (entries 2 0 0 0)) wordMeans
     ∷ call (ascii "random_range") drawSizes boundedMeans
     ∷ call (ascii "uniform_int") drawSizes rejectingMeans
     ∷ call (ascii "sample") (λ ns. exactly 5 ns (entries (at ns 3) (at ns 4) 0 0)) sampleMeans
     ∷ call (ascii "partial_shuffle") (λ ns. exactly 2 ns (entries (at ns 0) 0 0 0)) partialMeans
     ∷ call (ascii "shuffle") (λ ns. exactly 1 ns (entries (at ns 0) 0 0 0)) shuffleMeans
-    ∷ call (ascii "tail") (λ ns. exactly 2 ns (entries (at ns 0) (at ns 0) 0 0)) tailMeans
-    ∷ call (ascii "head") (λ ns. exactly 2 ns (entries (at ns 0) (at ns 0) 0 0)) headMeans
+    ∷ call (ascii "tail") (λ ns. exactly 2 ns (entries (at ns 0) 0 0 0)) tailMeans
+    ∷ call (ascii "head") (λ ns. exactly 2 ns (entries (at ns 0) 0 0 0)) headMeans
     ∷ call (ascii "sample_fill") (λ ns. exactly 2 ns (entries (at ns 1) (at ns 0) 0 0)) fillMeans
     ∷ call (ascii "indexed_samples") (λ ns. exactly 5 ns (entries (at ns 3) (at ns 0) (at ns 3) (at ns 4))) viewMeans
-    ∷ call (ascii "choose") choiceSizes chooseMeans
-    ∷ call (ascii "choose_stable") choiceSizes chooseStableMeans
+    ∷ call (ascii "choose") choiceSizes (choiceMeans false)
+    ∷ call (ascii "choose_stable") choiceSizes (choiceMeans true)
     ∷ call (ascii "pick") (λ ns. tableSizes 5 (at ns 0) ns) pickMeans
-    ∷ call (ascii "weight") (λ ns. tableSizes 4 1 ns) weightMeans
+    ∷ call (ascii "weight") (λ ns. tableSizes 4 2 ns) weightMeans
     ∷ []
 
 -- no call
@@ -54,13 +53,14 @@ no-call = call [] (λ ns. none) (λ g ns e. none)
 unfoldable pub callAt : ℕ → Call
 callAt k = getD calls k no-call
 
--- what the first five calls need of their numbers and of the slice for the values: room for them, and a bound for a draw
-unfoldable pub Drawable : (call : ℕ) → List ℕ → (a : ℕ) → Type 0
-Drawable k ns a = (1 ≤ k → 0 < a) × (k ≡ 1 → 1 < a) × (3 ≤ k → 0 < at ns 0) × (3 ≤ k → at ns 0 < 2 ^ 32)
-
 -- so many entries are there
 unfoldable pub fit : (asked room : Entries) → Bool
 fit e r = leb (e .a) (r .a) && leb (e .b) (r .b) && leb (e .c) (r .c) && leb (e .d) (r .d)
+
+-- there is room for what a line asks for
+unfoldable pub fits : (room : Entries) → Option Entries → Bool
+fits room none = false
+fits room (some e) = fit e room
 
 -- a call with the slices that its line asks for, if there is room for them
 unfoldable pub made : (room : Entries) → Option Entries → (Entries → Option Told) → Option Told

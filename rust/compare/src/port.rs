@@ -23,7 +23,7 @@ pub const PORT: Calls = Calls {
 mod tests {
     use std::fs;
 
-    use reference::line::{Name, call, is_skipped, written};
+    use reference::line::{CLASS, Name, call, is_skipped, written};
 
     use super::PORT;
 
@@ -49,7 +49,9 @@ mod tests {
         };
         let (list, answers) = (file("stdin"), file("stdout"));
         // Not `lines`: a line may end with a carriage return, which makes it wrong.
-        let lines = list.split_terminator('\n').filter(|line| !is_skipped(line));
+        let mut lines = list.split_terminator('\n');
+        assert_eq!(lines.next(), Some(CLASS));
+        let lines = lines.filter(|line| !is_skipped(line));
         let mut counts = [0; Name::ALL.len()];
         assert_eq!(lines.clone().count(), answers.lines().count());
         for (line, answer) in lines.zip(answers.lines()) {

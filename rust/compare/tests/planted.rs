@@ -12,6 +12,9 @@ const FAULTS: [&str; 6] = [
     "weight-beyond",
 ];
 
+/// A program that gives back the lines behind the class.
+const ECHO: &str = concat!(env!("CARGO_MANIFEST_DIR"), "/tests/echo");
+
 fn compare(words: &[&str]) -> Output {
     let mut command = Command::new(env!("CARGO_BIN_EXE_compare"));
     command.args(words).output().expect("compare runs")
@@ -34,14 +37,14 @@ fn a_planted_fault_is_told_and_ends_with_status_1() {
     }
 }
 
-/// The program that gives back its lines answers none of them as rand does. A fault of lines alone is planted, so that only lines are run.
+/// That program answers no line as rand does. A fault of lines alone is planted, so that only lines are run.
 #[test]
 fn a_program_that_differs_is_told_with_the_smallest_lines() {
     let words = [
         "--plant",
         "answer-digest",
         "--program",
-        "cat",
+        ECHO,
         "--calls",
         "5",
     ];

@@ -53,14 +53,17 @@ shown : (c : tie.After-known-told Inv-loop μ-loop) → let a = c .before .befor
     showAt (now (a .items)) (now (a .indices)) (c .before .before .before .before .before .loop .slot)
     ≡ record { answer = done (c .before .item .given .0 .0 ∷ []); place = c .before .before .before .ask2 .result .place }
 shown c =
-    let l = c .before .before .before .before .before .loop in
+    let at-loop = c .before .before .before .before .before in
+    let l = at-loop .loop in
     let r = c .before .before .before .ask2 in
     told _ _ (l .place) (l .slot) (r .result) _ (r .ensures .1) (l .inv .3) (c .before .item .given .1)
 
 loop-again : tie.Need-loop-again Inv-loop μ-loop
 loop-again c =
-    let a = c .before .before .before .before .before .before .before .before .before .before .args in
-    let l = c .before .before .before .before .before .loop in
+    let at-loop = c .before .before .before .before .before in
+    let start = at-loop .before .before .before .before .before in
+    let a = start .args in
+    let l = at-loop .loop in
     let so-far = l .inv .4 in
     (simp length-set (l .inv .0), l .inv .1, omega arith, moves _ _ _ _ _ so-far _ _ (shown c), turn _ _ _ _ _ so-far _ _ (omega arith) (shown c))
 

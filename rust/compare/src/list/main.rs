@@ -1,4 +1,5 @@
-//! Writes the fixed list of rand's answers that the Rattle program is held to: lines in file `stdin`, answers in `stdout`.
+//! Writes the fixed list of rand's answers that the Rattle program is held to: the class of slices and the lines in file `stdin`,
+//! answers in `stdout`.
 //!
 //! [`reference::line`] says what a line of `stdin` is and what its line of `stdout` holds.
 
@@ -17,7 +18,7 @@ use std::path::PathBuf;
 use std::process::ExitCode;
 
 use contents::Section;
-use reference::line::{LARGEST_LIST, answer, is_skipped};
+use reference::line::{CLASS, LARGEST_LIST, answer, is_skipped};
 
 fn main() -> ExitCode {
     let mut words = env::args_os().skip(1);
@@ -45,7 +46,7 @@ fn main() -> ExitCode {
 
 /// The two files.
 fn texts(sections: &[Section]) -> (String, String) {
-    let mut stdin = String::new();
+    let mut stdin = format!("{CLASS}\n");
     let mut stdout = String::new();
     for section in sections {
         push(&mut stdin, &format!("# {}", section.title));

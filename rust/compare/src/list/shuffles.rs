@@ -13,6 +13,15 @@ use crate::contents::{Section, held};
 /// Lengths of whole shuffles: the least, those next to the ends of the first chunks, and long ones.
 const LENGTHS: [usize; 15] = [0, 1, 2, 3, 4, 11, 12, 13, 18, 19, 20, 26, 27, 300, 8000];
 
+/// The bytes of a block. The program writes the values of an answer in such blocks.
+const BLOCK: usize = 65_536;
+
+/// The bytes that a block must have left for one more value.
+const LEAST_LEFT: usize = 21;
+
+/// Lengths of whole shuffles: as many items as one block takes, one more, and as many as three blocks take.
+const BLOCKS: [usize; 3] = [12_771, 12_772, 30_000];
+
 /// Lengths at which partial shuffles of every amount to two more are asked for.
 const EVERY_AMOUNT: [usize; 5] = [0, 1, 2, 3, 5];
 
@@ -53,6 +62,7 @@ pub fn sections() -> Vec<Section> {
         every_amount(),
         at_chunks(),
         long(),
+        of_blocks(),
         parts(),
         fills(),
         refusals(),
@@ -132,6 +142,27 @@ fn long() -> Section {
         "Partial shuffles of many items",
         [&calls[..], &more].concat(),
     )
+}
+
+/// Shuffles whose answers are longer than a block.
+fn of_blocks() -> Section {
+    let calls = BLOCKS.map(|len| {
+        let from = some_state(len as u64);
+        Call::Shuffle(Whole { from, len })
+    });
+    let [full, more, three] = calls.each_ref().map(values_size);
+    assert_eq!(full, BLOCK - LEAST_LEFT + 1);
+    assert!(more > full && three > 2 * BLOCK);
+    Section::new(
+        "Shuffles whose answers are longer than a block",
+        calls.to_vec(),
+    )
+}
+
+/// The bytes of an answer's values, each with the blank before it.
+fn values_size(call: &Call) -> usize {
+    let values = call.answer().values;
+    values.iter().map(|value| format!(" {value}").len()).sum()
 }
 
 /// Parts at every kind of place: the ends, next to them, in the middle and beyond.

@@ -1,11 +1,11 @@
-//! The Rattle program as a process: a list on its standard input, its answers on its standard output.
+//! The Rattle program as a process: a class of slices and a list on its standard input, its answers on its standard output.
 
 use std::io::{self, Write};
 use std::process::{Command, Stdio};
 use std::thread;
 
 use reference::State;
-use reference::line::{LARGEST_LIST, call, written};
+use reference::line::{CLASS, LARGEST_LIST, call, written};
 
 use super::faults;
 
@@ -67,6 +67,13 @@ impl Asked {
     }
 }
 
+/// What the program reads: the class, and these lines.
+fn list(lines: &[Asked]) -> String {
+    let lines = lines.iter().map(Asked::text);
+    let lines = [CLASS].into_iter().chain(lines);
+    lines.flat_map(|line| [line, "\n"]).collect()
+}
+
 impl Program {
     /// The program at this path, with this fault planted, or with none where no line can have one of that name.
     ///
@@ -104,8 +111,7 @@ impl Program {
     /// The answers that one run gives, with the planted fault where it shows. None where there is not one line for each: then it
     /// cannot be seen which answer is whose, and less has to be asked at once. So too where the program has no room for the list.
     pub fn once(&self, lines: &[Asked]) -> Option<Vec<String>> {
-        let size: usize = lines.iter().map(Asked::size).sum();
-        if size > LARGEST_LIST && lines.len() > 1 {
+        if list(lines).len() > LARGEST_LIST && lines.len() > 1 {
             return None;
         }
         let mut answers = self
@@ -136,7 +142,7 @@ impl Program {
 
     /// The lines that the program writes. Text behind the last of them counts as one more, and so does an end that is no success.
     fn run(&self, lines: &[Asked]) -> io::Result<Vec<String>> {
-        let list: String = lines.iter().flat_map(|line| [&line.text, "\n"]).collect();
+        let list = list(lines);
         let mut child = Command::new(&self.path)
             .stdin(Stdio::piped())
             .stdout(Stdio::piped())
@@ -165,11 +171,14 @@ impl Program {
 
 #[cfg(test)]
 mod tests {
-    use reference::line::Name;
+    use reference::line::{LARGEST_LIST, Name};
 
-    use super::{Asked, Program};
+    use super::{Asked, Program, list};
     use crate::inputs::Source;
     use crate::program::{faults, random};
+
+    /// A program that gives back the lines behind the class.
+    const ECHO: &str = concat!(env!("CARGO_MANIFEST_DIR"), "/tests/echo");
 
     /// Five lines. Of each program only what it does with lines matters.
     fn answers(program: &str) -> Vec<String> {
@@ -180,7 +189,7 @@ mod tests {
 
     #[test]
     fn an_answer_is_a_line() {
-        assert_eq!(answers("cat")[3], "seed 3");
+        assert_eq!(answers(ECHO)[3], "seed 3");
     }
 
     #[test]
@@ -202,13 +211,22 @@ mod tests {
         assert_eq!(asked.size(), 12);
     }
 
-    /// What one run cannot take is asked in more.
+    #[test]
+    fn a_list_begins_with_its_class() {
+        let lines = ["seed 1", "seed 2"].map(|line| Asked::new(line.to_owned()));
+        assert_eq!(list(&lines), "s\nseed 1\nseed 2\n");
+    }
+
+    /// What one run cannot take is asked in more. The line of the class counts.
     #[test]
     fn a_list_that_is_too_large_is_asked_in_parts() {
-        let lines = vec![Asked::new("seed 1".to_owned()).behind(&"#".repeat(300_000)); 4];
-        let program = Program::new("cat", None).expect("the program runs");
-        assert!(program.once(&lines).is_none());
-        assert_eq!(program.answers(&lines[..2]).len(), 2);
+        let program = Program::new(ECHO, None).expect("the program runs");
+        let most = LARGEST_LIST - list(&[]).len() - "\nx\n".len();
+        for (len, is_taken) in [(most, true), (most + 1, false)] {
+            let lines = ["x".repeat(len), "x".to_owned()].map(Asked::new);
+            assert_eq!(program.once(&lines).is_some(), is_taken);
+            assert_eq!(program.answers(&lines).len(), 2);
+        }
     }
 
     /// A line of each kind for each fault that it can have, in which the fault shows.

@@ -65,7 +65,6 @@ fn call(name: Name, source: &mut Source) -> Call {
         Name::RandomRange => Call::RandomRange(draw(source, bounded)),
         Name::UniformInt => Call::UniformInt(draw(source, rejecting)),
         Name::Sample => Call::Sample(sample(source)),
-        Name::IndexedSamples => Call::IndexedSamples(view(source)),
         Name::PartialShuffle => {
             let call = PartialShuffle::random(source);
             let len = call.len.min(ROOM);
@@ -88,6 +87,7 @@ fn call(name: Name, source: &mut Source) -> Call {
                 ..call
             })
         }
+        Name::IndexedSamples => Call::IndexedSamples(view(source)),
         Name::Choose => Call::Choose(choice(source)),
         Name::ChooseStable => Call::ChooseStable(choice(source)),
         Name::Pick => Call::Pick(picking(source)),

@@ -6,7 +6,7 @@ use crate::State;
 use crate::sampling::Ended;
 
 /// What a call answers: the number of the refusal or 0, the words read, the state afterwards, the digest of the slices that it was
-/// lent to write, and its values.
+/// lent to write or of the part that it lends, and its values.
 #[derive(Clone, Debug, PartialEq, Eq)]
 pub struct Answer {
     pub number: u64,
@@ -29,10 +29,10 @@ impl Answer {
         }
     }
 
-    /// The answer of a call that reads no word, writes nothing and is not refused.
+    /// The answer of a call that reads no word, writes nothing and is not refused: the entries of this part, and their digest.
     #[must_use]
-    pub fn shown(from: State, values: &[u32]) -> Self {
-        Self::new(&Ended::refused(0, from), &[], values)
+    pub fn shown(from: State, part: &[u32]) -> Self {
+        Self::new(&Ended::refused(0, from), &[part], part)
     }
 }
 
@@ -86,6 +86,6 @@ mod tests {
         assert_eq!(hex([0; 4]), "0".repeat(64));
         let answer = Answer::shown([0x0123_4567_89ab_cdef, 1, 0, 1 << 63], &[3, 0]);
         let state = "efcdab8967452301010000000000000000000000000000000000000000000080";
-        assert_eq!(answer.to_string(), format!("0 0 {state} 0 3 0"));
+        assert_eq!(answer.to_string(), format!("0 0 {state} 50332857 3 0"));
     }
 }

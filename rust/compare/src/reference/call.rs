@@ -67,13 +67,13 @@ pub enum Call {
     /// A rejecting draw within a budget.
     UniformInt(Bounded),
     Sample(Sampling),
-    /// A view of drawn items, as many as the length says.
-    IndexedSamples(Sampling),
     PartialShuffle(Shuffling),
     Shuffle(Whole),
     Tail(Part),
     Head(Part),
     SampleFill(Filling),
+    /// A view of drawn items, as many as the length says.
+    IndexedSamples(Sampling),
     Choose(Choosing),
     ChooseStable(Choosing),
     Pick(Picking),
@@ -100,16 +100,16 @@ impl Call {
             Name::RandomRange => Self::RandomRange(Bounded::read(from, numbers)?),
             Name::UniformInt => Self::UniformInt(Bounded::read(from, numbers)?),
             Name::Sample => Self::Sample(sample_line::read(from, numbers, room)?),
-            Name::IndexedSamples => {
-                let call = sample_line::read(from, numbers, room)?;
-                length(call.length, room)?;
-                Self::IndexedSamples(call)
-            }
             Name::PartialShuffle => Self::PartialShuffle(partial(from, numbers, room)?),
             Name::Shuffle => Self::Shuffle(whole(from, numbers, room)?),
             Name::Tail => Self::Tail(part(from, numbers, room)?),
             Name::Head => Self::Head(part(from, numbers, room)?),
             Name::SampleFill => Self::SampleFill(fill(from, numbers, room)?),
+            Name::IndexedSamples => {
+                let call = sample_line::read(from, numbers, room)?;
+                length(call.length, room)?;
+                Self::IndexedSamples(call)
+            }
             Name::Choose => Self::Choose(Choosing::read(from, numbers, room)?),
             Name::ChooseStable => Self::ChooseStable(Choosing::read(from, numbers, room)?),
             Name::Pick => Self::Pick(Picking::read(from, numbers, room)?),
@@ -134,9 +134,6 @@ impl Call {
             Self::RandomRange(call) => draw(Name::RandomRange, call),
             Self::UniformInt(call) => draw(Name::UniformInt, call),
             Self::Sample(call) => line(Name::Sample, call.from, sample_line::numbers(call)),
-            Self::IndexedSamples(call) => {
-                line(Name::IndexedSamples, call.from, sample_line::numbers(call))
-            }
             Self::PartialShuffle(call) => {
                 let numbers = vec![call.len as u64, call.amount];
                 line(Name::PartialShuffle, call.from, numbers)
@@ -147,6 +144,9 @@ impl Call {
             Self::SampleFill(call) => {
                 let lengths = [call.items_len, call.buf_len].map(|len| len as u64);
                 line(Name::SampleFill, call.from, lengths.to_vec())
+            }
+            Self::IndexedSamples(call) => {
+                line(Name::IndexedSamples, call.from, sample_line::numbers(call))
             }
             Self::Choose(call) => line(Name::Choose, call.from, call.numbers()),
             Self::ChooseStable(call) => line(Name::ChooseStable, call.from, call.numbers()),
@@ -171,7 +171,6 @@ impl Call {
             Self::RandomRange(call) => call.random_range(&calls.draws),
             Self::UniformInt(call) => call.uniform_int(&calls.draws),
             Self::Sample(call) => sampled(call, calls.sample),
-            Self::IndexedSamples(call) => viewed(call, calls.view),
             Self::PartialShuffle(call) => shuffled(call.len, |items| {
                 (calls.partial_shuffle)(call.from, call.amount, items)
             }),
@@ -179,6 +178,7 @@ impl Call {
             Self::Tail(call) => call.answer(calls.tail),
             Self::Head(call) => call.answer(calls.head),
             Self::SampleFill(call) => filled(call, calls.sample_fill),
+            Self::IndexedSamples(call) => viewed(call, calls.view),
             Self::Choose(call) => call.answer(calls.choose),
             Self::ChooseStable(call) => call.answer(calls.choose_stable),
             Self::Pick(call) => call.answer(&calls.weights),

@@ -1,8 +1,8 @@
 //! The lines of a list, and rand's answers to them.
 //!
-//! A list is text. A line that is empty or starts with `#` is skipped. Any other is a name, a generator and decimal numbers, with
-//! single blanks between, and is answered by one line. [`Call`] says which numbers a name wants and [`Answer`] what an answer
-//! holds; a line that is no call is answered by the word `wrong`.
+//! A list is text, and its first line is the class of slices. A line that is empty or starts with `#` is skipped. Any other is a
+//! name, a generator and decimal numbers, with single blanks between, and is answered by one line. [`Call`] says which numbers a
+//! name wants and [`Answer`] what an answer holds; a line that is no call is answered by the word `wrong`.
 
 use std::fmt;
 
@@ -11,10 +11,13 @@ use crate::call::Call;
 use crate::generator::Generator;
 use crate::number::decimal;
 
-/// The size that no list passes, in bytes: the Rattle program takes no more.
+/// The class of slices with which the Rattle program answers: the small one. It stands in a line of its own before all others.
+pub const CLASS: &str = "s";
+
+/// The size that no list passes, in bytes, with the line of its class: the program takes no more in that class.
 pub const LARGEST_LIST: usize = 524_287;
 
-/// What a program has room for.
+/// What the program has room for in a class.
 #[derive(Clone, Copy, Debug)]
 pub struct Rooms {
     /// The entries of a slice.
@@ -23,10 +26,10 @@ pub struct Rooms {
     pub numbers: usize,
 }
 
-/// The entries of a slice for which that program has room.
+/// The entries of a slice of the small class.
 pub const ROOM: usize = 65_537;
 
-/// All that it has room for.
+/// All that the small class has room for.
 pub const ROOMS: Rooms = Rooms {
     entries: ROOM,
     numbers: 32_768,
@@ -44,12 +47,12 @@ pub enum Name {
     RandomRange,
     UniformInt,
     Sample,
-    IndexedSamples,
     PartialShuffle,
     Shuffle,
     Tail,
     Head,
     SampleFill,
+    IndexedSamples,
     Choose,
     ChooseStable,
     Pick,
@@ -65,12 +68,12 @@ impl Name {
         (Self::RandomRange, "random_range"),
         (Self::UniformInt, "uniform_int"),
         (Self::Sample, "sample"),
-        (Self::IndexedSamples, "indexed_samples"),
         (Self::PartialShuffle, "partial_shuffle"),
         (Self::Shuffle, "shuffle"),
         (Self::Tail, "tail"),
         (Self::Head, "head"),
         (Self::SampleFill, "sample_fill"),
+        (Self::IndexedSamples, "indexed_samples"),
         (Self::Choose, "choose"),
         (Self::ChooseStable, "choose_stable"),
         (Self::Pick, "pick"),

@@ -49,7 +49,7 @@ pub fn head(items: &[u32], at: u64) -> &[u32] {
 }
 
 impl Part {
-    /// The answer where this is the part.
+    /// The answer where this is the part: its entries, and the digest of it.
     #[must_use]
     pub fn answer(&self, part: Parting) -> Answer {
         Answer::shown(self.from, part(&items(self.len), self.at))
@@ -80,7 +80,10 @@ mod tests {
                 len: 3,
                 at,
             };
-            [part.answer(tail), part.answer(head)].map(|answer| answer.values)
+            [part.answer(tail), part.answer(head)].map(|answer| {
+                assert_eq!(answer.digest, digest(&[&answer.values]));
+                answer.values
+            })
         };
         assert_eq!(part(0), [vec![0, 1, 2], vec![]]);
         assert_eq!(part(2), [vec![2], vec![0, 1]]);

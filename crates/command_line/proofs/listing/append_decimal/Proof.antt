@@ -31,8 +31,10 @@ same-length c = search needs
 
 returns : tie.Need-returns
 returns c =
-    let d = c .before .before .before .before .before .decimal in
-    let s = c .before .before .before .before .before .before .before .before .args in
+    let at-decimal = c .before .before .before .before .before in
+    let start = at-decimal .before .before .before in
+    let d = at-decimal .decimal in
+    let s = start .args in
     let small : s .x < 2 ^ 64 = search needs in
     behind (now (s .block)) _ (d .last .1 .0) (s .used) _ (s .x) (d .result) (omega arith) (d .ensures .0 .0) small (d .ensures .1 .0) (d .ensures .1 .1) (c .before .before .append .ensures)
 

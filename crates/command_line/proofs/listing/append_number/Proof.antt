@@ -27,8 +27,10 @@ same-length c = search needs
 
 returns : tie.Need-returns
 returns c =
-    let s = c .before .before .before .before .before .before .before .before .before .before .args in
-    let a = c .before .before .before .before .before .before .append in
+    let at-append = c .before .before .before .before .before .before in
+    let start = at-append .before .before .before .before in
+    let s = start .args in
+    let a = at-append .append in
     let b = c .before .before .append-decimal in
     behind-both (now (s .block)) (a .last .0) _ (s .used) (a .result) _ (s .before) (s .x) (omega arith) (a .ensures) (b .ensures .0) (b .ensures .1)
 

@@ -44,10 +44,14 @@ enum-known-x : tie.Need-enum-known-x Inv-loop μ-loop
 enum-known-x c = search needs
 
 mul-numbers : tie.Need-mul-numbers Inv-loop μ-loop
-mul-numbers c = let l = c .before .before .before .before .before .before .before .before .loop in omega (arith, l .inv .full, l .inv .few)
+mul-numbers c =
+    let at-loop = c .before .before .before .before .before .before .before .before in
+    let l = at-loop .loop in omega (arith, l .inv .full, l .inv .few)
 
 slice-write-numbers : tie.Need-slice-write-numbers Inv-loop μ-loop
-slice-write-numbers c = let l = c .before .before .before .before .before .before .before .before .loop in omega (arith, l .inv .full, l .inv .few)
+slice-write-numbers c =
+    let at-loop = c .before .before .before .before .before .before .before .before in
+    let l = at-loop .loop in omega (arith, l .inv .full, l .inv .few)
 
 enum-told : tie.Need-enum-told Inv-loop μ-loop
 enum-told c = search needs

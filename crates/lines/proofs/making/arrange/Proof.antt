@@ -1,30 +1,30 @@
 -- `arrange` meets its contract: an arm knows the place of its call. Assumes nothing.
-use borrow.Author.Needs.{needs}
 use native.Mathlib.Omega.{arith}
 use denote.Ref.{now}
 use lib.ListN.{length}
 use Rattle.choose_method.proofs.NoneOf.{behind}
 use Rattle.lines.proofs.Rows.{means-5, means-6, means-7, means-8, means-9, means-10}
+use borrow.Author.Needs.{needs}
 use Rattle.lines.proofs.making.arrange.Statement.{statement}
 use Rattle.lines.proofs.making.arrange.Tie as tie
 
 sample-requires : tie.Need-sample-requires
-sample-requires c κs = search needs
+sample-requires c κs = tt
 
 partially-requires : tie.Need-partially-requires
-partially-requires c κs = search needs
+partially-requires c κs = tt
 
 wholly-requires : tie.Need-wholly-requires
-wholly-requires c κs = search needs
+wholly-requires c κs = tt
 
 tail-requires : tie.Need-tail-requires
-tail-requires c κs = c .before .before .before .before .before .before .pre (omega (arith, c .before .before .match .keys4)) (omega (arith, c .before .before .match .keys4))
+tail-requires c κs = tt
 
 head-requires : tie.Need-head-requires
-head-requires c κs = c .before .before .before .before .before .before .pre (omega (arith, c .before .before .match .keys5)) (omega (arith, c .before .before .match .keys5))
+head-requires c κs = tt
 
 fill-requires : tie.Need-fill-requires
-fill-requires c κs = search needs
+fill-requires c κs = tt
 
 same-length : tie.Need-same-length
 same-length c = search needs
@@ -33,28 +33,50 @@ same-length-2 : tie.Need-same-length-2
 same-length-2 c = search needs
 
 returns : tie.Need-returns
-returns c = λ c₁ d₁ more less. rw (means-5 (c .before .before .before .before .before .before .before .before .before .before .before .args .call) (c .before .before .before .before .before .before .before .match .keys1) _ _ _) (c .before .before .before .before .sample .ensures c₁ d₁)
+returns c =
+    let s = c .before .before .before .before in
+    let m = s .before .before .before in
+    λ y z more less. rw (means-5 (m .before .before .before .before .args .call) (m .match .keys1) _ _ _) (s .sample .ensures y z)
 
 same-length-3 : tie.Need-same-length-3
 same-length-3 c = search needs
 
 returns-2 : tie.Need-returns-2
-returns-2 c = λ c₁ d₁ more less. rw (means-6 (c .before .before .before .before .before .before .before .before .args .call) (c .before .before .before .before .match .keys2) _ _ _) (c .before .before .partially .ensures (length (now (c .before .before .before .before .before .before .before .before .args .b))) c₁ d₁)
+returns-2 c =
+    let s = c .before .before in
+    let m = s .before .before in
+    let a = m .before .before .before .before .args in
+    λ y z more less. rw (means-6 (a .call) (m .match .keys2) _ _ _) (s .partially .ensures (length (now (a .b))) y z)
 
 same-length-4 : tie.Need-same-length-4
 same-length-4 c = search needs
 
 returns-3 : tie.Need-returns-3
-returns-3 c = λ c₁ d₁ more less. rw (means-7 (c .before .before .before .before .before .before .before .before .args .call) (c .before .before .before .before .match .keys3) _ _ _) (c .before .before .wholly .ensures _ (length (now (c .before .before .before .before .before .before .before .before .args .b))) c₁ d₁)
+returns-3 c =
+    let s = c .before .before in
+    let m = s .before .before in
+    let a = m .before .before .before .before .args in
+    λ y z more less. rw (means-7 (a .call) (m .match .keys3) _ _ _) (s .wholly .ensures _ (length (now (a .b))) y z)
 
 same-length-5 : tie.Need-same-length-5
 same-length-5 c = search needs
 
+returns-4 : tie.Need-returns-4
+returns-4 c =
+    let s = c .before .before in
+    let m = s .before .before in
+    let a = m .before .before .before .before .args in
+    λ y z more less. rw (means-8 (a .call) (m .match .keys4) _ _ _) (s .tail .ensures (length (now (a .b))) y z)
+
 same-length-6 : tie.Need-same-length-6
 same-length-6 c = search needs
 
-returns-4 : tie.Need-returns-4
-returns-4 c = λ c₁ d₁ more less. rw (means-8 (c .before .before .before .before .before .before .before .before .before .before .before .args .call) (c .before .before .before .before .before .before .before .match .keys4) _ _ _) (c .before .before .before .before .tail .ensures c₁ d₁)
+returns-5 : tie.Need-returns-5
+returns-5 c =
+    let s = c .before .before in
+    let m = s .before .before in
+    let a = m .before .before .before .before .args in
+    λ y z more less. rw (means-9 (a .call) (m .match .keys5) _ _ _) (s .head .ensures (length (now (a .b))) y z)
 
 same-length-7 : tie.Need-same-length-7
 same-length-7 c = search needs
@@ -62,17 +84,12 @@ same-length-7 c = search needs
 same-length-8 : tie.Need-same-length-8
 same-length-8 c = search needs
 
-returns-5 : tie.Need-returns-5
-returns-5 c = λ c₁ d₁ more less. rw (means-9 (c .before .before .before .before .before .before .before .before .before .before .before .args .call) (c .before .before .before .before .before .before .before .match .keys5) _ _ _) (c .before .before .before .before .head .ensures c₁ d₁)
-
-same-length-9 : tie.Need-same-length-9
-same-length-9 c = search needs
-
-same-length-10 : tie.Need-same-length-10
-same-length-10 c = search needs
-
 returns-6 : tie.Need-returns-6
-returns-6 c = λ c₁ d₁ more less. rw (means-10 (c .before .before .before .before .before .before .before .before .before .before .before .args .call) (omega (arith, more, less, behind 5 5 (c .before .before .before .before .before .before .before .before .before .before .before .args .call) more (c .before .before .before .before .before .before .before .match .rest))) _ _ _) (c .before .before .before .before .fill .ensures _ c₁ d₁)
+returns-6 c =
+    let s = c .before .before .before .before in
+    let m = s .before .before .before in
+    let k = m .before .before .before .before .args .call in
+    λ y z more less. rw (means-10 k (omega (arith, more, less, behind 5 5 k more (m .match .rest))) _ _ _) (s .fill .ensures _ y z)
 
 pub arrange-spec : {M : Type 1} → statement M
 arrange-spec =
@@ -92,11 +109,9 @@ arrange-spec =
     same-length-4
     returns-3
     same-length-5
-    same-length-6
     returns-4
+    same-length-6
+    returns-5
     same-length-7
     same-length-8
-    returns-5
-    same-length-9
-    same-length-10
     returns-6)

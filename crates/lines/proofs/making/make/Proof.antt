@@ -1,96 +1,105 @@
--- `make` meets its contract: the fields of the line are its words. Assumes nothing.
-use borrow.Author.Needs.{needs}
-use mathlib.Core.Path.{sym, _∙_}
-use native.Mathlib.Omega.{arith}
+-- `make` meets its contract: what the line asks for is lent, if there is room for it. Assumes nothing.
+use mathlib.Core.Path.{sym}
 use denote.Ref.{now}
+use lib.ListN.{length}
 use lib.Seq.{length-take-le}
-use Rattle.lines.proofs.Lines.{alone, unnamed, unseeded, unnumbered, numbered}
+use borrow.Author.Tests.{not-true, not-false}
+use Rattle.lines.proofs.Calling.{Room, has-room, wrong-line, lent, good-line}
+use borrow.Author.Needs.{needs}
 use Rattle.lines.proofs.making.make.Statement.{statement}
 use Rattle.lines.proofs.making.make.Tie as tie
 
-field-end-requires : tie.Need-field-end-requires
-field-end-requires c κs = omega arith
+-- where the function begins
+abbrev start : tie.Else1 → tie.Start
+start t = t .before .before .before .before .before .before .before .before .before .before .before .before .before .before .before
+
+-- there is room, where the test says so
+there : (t : tie.Else1) → Room (t .before .before .sizes-of .result) (length (now (start t .args .a))) (length (now (start t .args .b))) (length (now (start t .args .c))) (length (now (start t .args .d)))
+there t = has-room (t .before .before .sizes-of .result) _ _ _ _ _ (t .before .has-room .ensures) (not-false _ (t .if1 .left))
+
+read-requires : tie.Need-read-requires
+read-requires c κs = tt
+
+slice-reshare-prefix-sizes-of : tie.Need-slice-reshare-prefix-sizes-of
+slice-reshare-prefix-sizes-of c = search needs
+
+slice-aggregate-sizes-of : tie.Need-slice-aggregate-sizes-of
+slice-aggregate-sizes-of c = sym (length-take-le _ _ (c .before .before .before .before .read .ensures .lies))
+
+sizes-of-requires : tie.Need-sizes-of-requires
+sizes-of-requires c κs = tt
+
+has-room-requires : tie.Need-has-room-requires
+has-room-requires c κs = tt
 
 wrong-requires : tie.Need-wrong-requires
-wrong-requires c κs = search needs
-
-returns : tie.Need-returns
-returns c = rw (alone _ _ _ _ (c .before .before .field-end .ensures) (c .before .if1 .taken)) (c .wrong .ensures _)
-
-add-start : tie.Need-add-start
-add-start c = omega arith
-
-field-end-requires-2 : tie.Need-field-end-requires-2
-field-end-requires-2 c κs = omega (arith, c .before .field-end .ensures .inside)
-
-slice-aggregate-place-in : tie.Need-slice-aggregate-place-in
-slice-aggregate-place-in c = search needs
-
-slice-aggregate-place-in-2 : tie.Need-slice-aggregate-place-in-2
-slice-aggregate-place-in-2 c = sym (length-take-le (c .before .before .before .before .field-end .result) (now (c .before .before .before .before .before .before .before .before .before .before .before .args .line)) (c .before .before .before .before .field-end .ensures .inside))
-
-place-in-requires : tie.Need-place-in-requires
-place-in-requires c κs = search needs
-
-wrong-requires-2 : tie.Need-wrong-requires-2
-wrong-requires-2 c κs = search needs
-
-returns-2 : tie.Need-returns-2
-returns-2 c = rw (unnamed _ _ _ _ (c .before .before .before .before .before .before .before .field-end .ensures) _ (c .before .before .before .before .before .field-end2 .ensures) _ (c .before .before .place-in .ensures) (c .before .if2 .taken)) (c .wrong2 .ensures _)
-
-sub-parse-generator : tie.Need-sub-parse-generator
-sub-parse-generator c = omega (arith, c .before .before .before .before .field-end2 .ensures .behind)
-
-part-parse-generator-start : tie.Need-part-parse-generator-start
-part-parse-generator-start c = omega (arith, c .before .before .before .before .field-end2 .ensures .behind)
-
-part-parse-generator-end : tie.Need-part-parse-generator-end
-part-parse-generator-end c = omega (arith, c .before .before .before .before .field-end2 .ensures .inside)
-
-parse-generator-requires : tie.Need-parse-generator-requires
-parse-generator-requires c κs = search needs
-
-enum-known-rng : tie.Need-enum-known-rng
-enum-known-rng c = search needs
-
-enum-told : tie.Need-enum-told
-enum-told c = search needs
-
-wrong-requires-3 : tie.Need-wrong-requires-3
-wrong-requires-3 c κs = search needs
-
-returns-3 : tie.Need-returns-3
-returns-3 c = rw (unseeded _ _ _ _ (c .before .before .before .before .before .before .before .before .before .before .before .field-end .ensures) _ (c .before .before .before .before .before .before .before .before .before .field-end2 .ensures) _ (c .before .before .before .before .before .before .place-in .ensures) (sym (c .before .enum-told .given .1) ∙ c .before .before .before .parse-generator .ensures)) (c .wrong3 .ensures _)
-
-add-read-numbers : tie.Need-add-read-numbers
-add-read-numbers c = omega arith
-
-read-numbers-requires : tie.Need-read-numbers-requires
-read-numbers-requires c κs = search needs
-
-enum-known-count : tie.Need-enum-known-count
-enum-known-count c = search needs
-
-enum-told-2 : tie.Need-enum-told-2
-enum-told-2 c = search needs
-
-wrong-requires-4 : tie.Need-wrong-requires-4
-wrong-requires-4 c κs = search needs
+wrong-requires c κs = tt
 
 same-length : tie.Need-same-length
 same-length c = search needs
 
-returns-4 : tie.Need-returns-4
-returns-4 c = rw (unnumbered _ _ _ _ (c .before .before .before .before .before .before .before .before .before .before .before .before .before .before .before .before .before .before .field-end .ensures) _ (c .before .before .before .before .before .before .before .before .before .before .before .before .before .before .before .before .field-end2 .ensures) _ (c .before .before .before .before .before .before .before .before .before .before .before .before .before .place-in .ensures) _ (sym (c .before .before .before .before .before .before .before .before .rng .given .1) ∙ c .before .before .before .before .before .before .before .before .before .before .parse-generator .ensures) (rw (c .before .enum-told2 .given .1) at (c .before .before .before .before .before .read-numbers .ensures .0))) (c .wrong4 .ensures _)
+returns : tie.Need-returns
+returns c =
+    let z = c .before .before .before in
+    let r = z .before .before .before .before .before in
+    let s = r .before .before .before .before .before .before .before .before .args in
+    wrong-line _ _ _ _ (r .read .ensures) (now (s .a)) (now (s .b)) (now (s .c)) (now (s .d)) (z .sizes-of .result) (z .sizes-of .ensures) _ _ _ (c .before .before .has-room .ensures) (not-true _ (c .before .if1 .taken)) (c .wrong .ensures _)
 
-slice-reshare-prefix-make-call : tie.Need-slice-reshare-prefix-make-call
-slice-reshare-prefix-make-call c = rw (c .before .count .given .1) at (c .before .before .before .before .before .read-numbers .ensures .1)
+slice-reshare-prefix-make-with : tie.Need-slice-reshare-prefix-make-with
+slice-reshare-prefix-make-with c = search needs
 
-slice-aggregate-make-call : tie.Need-slice-aggregate-make-call
-slice-aggregate-make-call c = sym (length-take-le _ _ (rw (c .before .before .count .given .1) at (c .before .before .before .before .before .before .read-numbers .ensures .1)))
+slice-aggregate-make-with : tie.Need-slice-aggregate-make-with
+slice-aggregate-make-with c =
+    let at-read = c .before .before .before .before .before .before .before .before in
+    sym (length-take-le _ _ (at-read .read .ensures .lies))
 
-make-call-requires : tie.Need-make-call-requires
-make-call-requires c κs = omega arith
+slice-relend-prefix-make-with : tie.Need-slice-relend-prefix-make-with
+slice-relend-prefix-make-with c =
+    let t = c .before in
+    there t .room-a
+
+slice-aggregate-make-with-2 : tie.Need-slice-aggregate-make-with-2
+slice-aggregate-make-with-2 c =
+    let t = c .before .before in
+    sym (length-take-le (t .before .before .sizes-of .result .a) (now (start t .args .a)) (there t .room-a))
+
+slice-relend-prefix-make-with-2 : tie.Need-slice-relend-prefix-make-with-2
+slice-relend-prefix-make-with-2 c =
+    let t = c .before .before in
+    there t .room-b
+
+slice-aggregate-make-with-3 : tie.Need-slice-aggregate-make-with-3
+slice-aggregate-make-with-3 c =
+    let t = c .before .before .before in
+    sym (length-take-le (t .before .before .sizes-of .result .b) (now (start t .args .b)) (there t .room-b))
+
+slice-relend-prefix-make-with-3 : tie.Need-slice-relend-prefix-make-with-3
+slice-relend-prefix-make-with-3 c =
+    let t = c .before .before .before in
+    there t .room-c
+
+slice-aggregate-make-with-4 : tie.Need-slice-aggregate-make-with-4
+slice-aggregate-make-with-4 c =
+    let t = c .before .before .before .before in
+    sym (length-take-le (t .before .before .sizes-of .result .c) (now (start t .args .c)) (there t .room-c))
+
+slice-relend-prefix-make-with-4 : tie.Need-slice-relend-prefix-make-with-4
+slice-relend-prefix-make-with-4 c =
+    let t = c .before .before .before .before in
+    there t .room-d
+
+slice-aggregate-make-with-5 : tie.Need-slice-aggregate-make-with-5
+slice-aggregate-make-with-5 c =
+    let t = c .before .before .before .before .before in
+    sym (length-take-le (t .before .before .sizes-of .result .d) (now (start t .args .d)) (there t .room-d))
+
+make-with-requires : tie.Need-make-with-requires
+make-with-requires c κs =
+    let t = c .before .before .before .before .before in
+    let z = t .before .before in
+    let r = z .before .before .before .before .before in
+    let s = r .before .before .before .before .before .before .before .before .args in
+    lent _ _ _ _ (r .read .ensures) (now (s .a)) (now (s .b)) (now (s .c)) (now (s .d)) (z .sizes-of .result) (z .sizes-of .ensures) (there t)
 
 same-length-2 : tie.Need-same-length-2
 same-length-2 c = search needs
@@ -107,44 +116,41 @@ same-length-5 c = search needs
 same-length-6 : tie.Need-same-length-6
 same-length-6 c = search needs
 
-returns-5 : tie.Need-returns-5
-returns-5 c = rw (numbered _ _ _ _ (c .before .before .before .before .before .before .before .before .before .before .before .before .before .before .before .before .before .before .before .before .before .before .before .before .before .before .before .before .before .before .before .before .field-end .ensures) _ (c .before .before .before .before .before .before .before .before .before .before .before .before .before .before .before .before .before .before .before .before .before .before .before .before .before .before .before .before .before .before .field-end2 .ensures) _ (c .before .before .before .before .before .before .before .before .before .before .before .before .before .before .before .before .before .before .before .before .before .before .before .before .before .before .before .place-in .ensures) _ (sym (c .before .before .before .before .before .before .before .before .before .before .before .before .before .before .before .before .before .before .before .before .before .before .rng .given .1) ∙ c .before .before .before .before .before .before .before .before .before .before .before .before .before .before .before .before .before .before .before .before .before .before .before .before .parse-generator .ensures) _ (rw (c .before .before .before .before .before .before .before .before .before .before .before .before .before .before .before .count .given .1) at (c .before .before .before .before .before .before .before .before .before .before .before .before .before .before .before .before .before .before .before .read-numbers .ensures .0))) (c .before .before .before .before .before .before .before .before .make-call .ensures)
+returns-2 : tie.Need-returns-2
+returns-2 c =
+    let m = c .before .before .before .before .before .before .before .before in
+    let t = m .before .before .before .before .before .before in
+    let z = t .before .before in
+    let r = z .before .before .before .before .before in
+    let s = r .before .before .before .before .before .before .before .before .args in
+    good-line _ _ _ _ (r .read .ensures) (now (s .a)) (now (s .b)) (now (s .c)) (now (s .d)) (z .sizes-of .result) (z .sizes-of .ensures) (there t) _ _ _ (m .make-with .ensures)
 
 pub make-spec : {M : Type 1} → statement M
 make-spec =
     tie.close
     (tie.spec
-    field-end-requires
+    read-requires
+    slice-reshare-prefix-sizes-of
+    slice-aggregate-sizes-of
+    sizes-of-requires
+    has-room-requires
     wrong-requires
-    returns
-    add-start
-    field-end-requires-2
-    slice-aggregate-place-in
-    slice-aggregate-place-in-2
-    place-in-requires
-    wrong-requires-2
-    returns-2
-    sub-parse-generator
-    part-parse-generator-start
-    part-parse-generator-end
-    parse-generator-requires
-    enum-known-rng
-    enum-told
-    wrong-requires-3
-    returns-3
-    add-read-numbers
-    read-numbers-requires
-    enum-known-count
-    enum-told-2
-    wrong-requires-4
     same-length
-    returns-4
-    slice-reshare-prefix-make-call
-    slice-aggregate-make-call
-    make-call-requires
+    returns
+    slice-reshare-prefix-make-with
+    slice-aggregate-make-with
+    slice-relend-prefix-make-with
+    slice-aggregate-make-with-2
+    slice-relend-prefix-make-with-2
+    slice-aggregate-make-with-3
+    slice-relend-prefix-make-with-3
+    slice-aggregate-make-with-4
+    slice-relend-prefix-make-with-4
+    slice-aggregate-make-with-5
+    make-with-requires
     same-length-2
     same-length-3
     same-length-4
     same-length-5
     same-length-6
-    returns-5)
+    returns-2)

@@ -85,11 +85,11 @@ pub fn of(name: Name) -> Vec<&'static str> {
         Name::RandomRange => vec![SECOND_WORD, FIGURE],
         Name::UniformInt => vec![THRESHOLD, THRESHOLD_LOW, FIGURE],
         Name::Sample => [Sample::FAULTS, &[FIGURE, SECOND_WORD]].concat(),
-        Name::IndexedSamples => IndexedSamples::FAULTS.to_vec(),
         Name::PartialShuffle => PartialShuffle::FAULTS.to_vec(),
         Name::Shuffle => Shuffle::FAULTS.to_vec(),
         Name::Tail | Name::Head => vec![PARTS],
         Name::SampleFill => SampleFill::FAULTS.to_vec(),
+        Name::IndexedSamples => IndexedSamples::FAULTS.to_vec(),
         Name::Choose => Choose::FAULTS.to_vec(),
         Name::ChooseStable => ChooseStable::FAULTS.to_vec(),
         // But for an entry past the sums that is searched: in a line it is 2^32 - 1, above all that is drawn.

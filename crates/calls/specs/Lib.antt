@@ -1,9 +1,0 @@
-pub mod Slices
-pub mod Picks
-pub mod Told
-pub mod Sizes
-pub mod Hints
-pub mod Tables
-pub mod Loaded
-pub mod Means
-pub mod Front
