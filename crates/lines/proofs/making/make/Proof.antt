@@ -9,9 +9,15 @@ use borrow.Author.Needs.{needs}
 use Rattle.lines.proofs.making.make.Statement.{statement}
 use Rattle.lines.proofs.making.make.Tie as tie
 
--- where the function begins
+-- Earlier contexts, as later ones see them: the line was read, and the function began.
+abbrev line-read : tie.After-sizes-of → tie.After-read
+line-read z = z .before .before .before .before .before
+
+abbrev begun : tie.After-read → tie.Start
+begun r = r .before .before .before .before .before .before .before .before
+
 abbrev start : tie.Else1 → tie.Start
-start t = t .before .before .before .before .before .before .before .before .before .before .before .before .before .before .before
+start t = begun (line-read (t .before .before))
 
 -- there is room, where the test says so
 there : (t : tie.Else1) → Room (t .before .before .sizes-of .result) (length (now (start t .args .a))) (length (now (start t .args .b))) (length (now (start t .args .c))) (length (now (start t .args .d)))
@@ -41,8 +47,8 @@ same-length c = search needs
 returns : tie.Need-returns
 returns c =
     let z = c .before .before .before in
-    let r = z .before .before .before .before .before in
-    let s = r .before .before .before .before .before .before .before .before .args in
+    let r = line-read z in
+    let s = begun r .args in
     wrong-line _ _ _ _ (r .read .ensures) (now (s .a)) (now (s .b)) (now (s .c)) (now (s .d)) (z .sizes-of .result) (z .sizes-of .ensures) _ _ _ (c .before .before .has-room .ensures) (not-true _ (c .before .if1 .taken)) (c .wrong .ensures _)
 
 slice-reshare-prefix-make-with : tie.Need-slice-reshare-prefix-make-with
@@ -97,8 +103,8 @@ make-with-requires : tie.Need-make-with-requires
 make-with-requires c κs =
     let t = c .before .before .before .before .before in
     let z = t .before .before in
-    let r = z .before .before .before .before .before in
-    let s = r .before .before .before .before .before .before .before .before .args in
+    let r = line-read z in
+    let s = begun r .args in
     lent _ _ _ _ (r .read .ensures) (now (s .a)) (now (s .b)) (now (s .c)) (now (s .d)) (z .sizes-of .result) (z .sizes-of .ensures) (there t)
 
 same-length-2 : tie.Need-same-length-2
@@ -121,8 +127,8 @@ returns-2 c =
     let m = c .before .before .before .before .before .before .before .before in
     let t = m .before .before .before .before .before .before in
     let z = t .before .before in
-    let r = z .before .before .before .before .before in
-    let s = r .before .before .before .before .before .before .before .before .args in
+    let r = line-read z in
+    let s = begun r .args in
     good-line _ _ _ _ (r .read .ensures) (now (s .a)) (now (s .b)) (now (s .c)) (now (s .d)) (z .sizes-of .result) (z .sizes-of .ensures) (there t) _ _ _ (m .make-with .ensures)
 
 pub make-spec : {M : Type 1} → statement M

@@ -9,13 +9,29 @@ use borrow.Author.Needs.{needs}
 use Rattle.lines.proofs.making.make_with.Statement.{statement}
 use Rattle.lines.proofs.making.make_with.Tie as tie
 
+-- Earlier contexts, as later ones see them: the function began; of its calls the view was run, the choice made, the table weighed.
+abbrev begun : tie.After-slice-known4 → tie.Start
+begun c = c .before .before .before .before .before
+
+abbrev last-begun : tie.Else3 → tie.Start
+last-begun c = begun (c .before .before .before)
+
+abbrev viewed : tie.After-slice-known11 → tie.After-view
+viewed c = c .before .before .before .before .before .before .before .before
+
+abbrev chosen : tie.After-slice-known14 → tie.After-choice
+chosen c = c .before .before .before .before .before .before
+
+abbrev weighed : tie.After-slice-known19 → tie.After-weigh
+weighed c = c .before .before .before .before .before .before .before .before
+
 draw-requires : tie.Need-draw-requires
-draw-requires c κs = bounds _ _ _ (c .if1 .taken) (c .before .before .before .before .before .before .pre)
+draw-requires c κs = bounds _ _ _ (c .if1 .taken) (begun (c .before) .pre)
 
 put-requires : tie.Need-put-requires
 put-requires c κs =
     let t = c .before .before in
-    (two-entries _ _ _ (t .if1 .taken) (t .before .before .before .before .before .before .pre), c .before .draw .ensures (entries 0 0 0 0) (t .if1 .taken) .most)
+    (two-entries _ _ _ (t .if1 .taken) (begun (t .before) .pre), c .before .draw .ensures (entries 0 0 0 0) (t .if1 .taken) .most)
 
 same-length : tie.Need-same-length
 same-length c = search needs
@@ -57,21 +73,21 @@ same-length-7 c = search needs
 
 returns-3 : tie.Need-returns-3
 returns-3 c =
-    let s = c .before .before .before .before .before .before .before .before in
+    let s = viewed c in
     let t = s .before .before .before .before .before in
-    let k = t .before .before .before .before .before .before .before .before .args .call in
+    let k = begun (t .before .before .before) .args .call in
     rw (means-11 k (omega (arith, t .if3 .taken, t .before .if2 .left)) _ _ _) (s .view .ensures)
 
 choice-requires : tie.Need-choice-requires
 choice-requires c κs =
     let t = c .before .before .before in
-    choice-at _ _ _ (t .before .before .before .before .before .before .before .before .before .pre) (t .before .if3 .left) (t .if4 .taken) .1
+    choice-at _ _ _ (last-begun (t .before) .pre) (t .before .if3 .left) (t .if4 .taken) .1
 
 put-requires-2 : tie.Need-put-requires-2
 put-requires-2 c κs =
-    let s = c .before .before .before .before .before .before .before in
+    let s = chosen (c .before) in
     let t = s .before .before .before .before in
-    (choice-at _ _ _ (t .before .before .before .before .before .before .before .before .before .pre) (t .before .if3 .left) (t .if4 .taken) .0, s .choice .ensures 0 .most)
+    (choice-at _ _ _ (last-begun (t .before) .pre) (t .before .if3 .left) (t .if4 .taken) .0, s .choice .ensures 0 .most)
 
 same-length-8 : tie.Need-same-length-8
 same-length-8 c = search needs
@@ -87,19 +103,17 @@ same-length-11 c = search needs
 
 returns-4 : tie.Need-returns-4
 returns-4 c =
-    let s = c .before .before .before .before .before .before .before .before .before .before in
+    let s = chosen (c .before .before .before .before) in
     let t = s .before .before .before .before in
     put-gives _ _ _ _ (c .before .before .put2 .ensures) (gives _ _ _ (choice-means _ _ _ _ (t .before .if3 .left) (t .if4 .taken)) (s .choice .ensures _))
 
 sub-weigh : tie.Need-sub-weigh
-sub-weigh c =
-    let start = c .before .before .before .before .before .before .before .before .before in
-    omega (arith, in-table _ _ _ (start .pre))
+sub-weigh c = omega (arith, in-table _ _ _ (last-begun (c .before) .pre))
 
 weigh-requires : tie.Need-weigh-requires
 weigh-requires c κs =
     let t = c .before .before .before .before in
-    table-at _ _ _ (t .before .before .before .before .before .before .before .before .before .pre) (t .if4 .left)
+    table-at _ _ _ (last-begun (t .before) .pre) (t .if4 .left)
 
 same-length-12 : tie.Need-same-length-12
 same-length-12 c = search needs
@@ -115,9 +129,9 @@ same-length-15 c = search needs
 
 returns-5 : tie.Need-returns-5
 returns-5 c =
-    let s = c .before .before .before .before .before .before .before .before in
+    let s = weighed c in
     let t = s .before .before .before .before .before in
-    table-means _ _ _ _ (Tells _ _) (t .if4 .left) (in-table _ _ _ (t .before .before .before .before .before .before .before .before .before .pre)) (s .weigh .ensures)
+    table-means _ _ _ _ (Tells _ _) (t .if4 .left) (in-table _ _ _ (last-begun (t .before) .pre)) (s .weigh .ensures)
 
 pub make-with-spec : {M : Type 1} → statement M
 make-with-spec =

@@ -13,6 +13,16 @@ Inv-loop list numbers₀ a₀ b₀ c₀ d₀ block₀ n at₀ numbers a b c d bl
 abbrev μ-loop : tie.MeasureT-loop
 μ-loop list numbers₀ a₀ b₀ c₀ d₀ block₀ n at₀ numbers a b c d block at = n - at
 
+-- Earlier contexts, as later ones see them: the call of a line was made, its end was found, its turn began.
+abbrev made : tie.After-slice-known12 Inv-loop μ-loop → tie.After-make Inv-loop μ-loop
+made c = c .before .before .before .before .before .before .before .before .before .before
+
+abbrev found : tie.After-make Inv-loop μ-loop → tie.After-field-end Inv-loop μ-loop
+found m = m .before .before .before .before .before .before .before .before
+
+abbrev turn : tie.After-field-end Inv-loop μ-loop → tie.At-loop Inv-loop μ-loop
+turn f = f .before .before .before
+
 large-buffer-requires : tie.Need-large-buffer-requires Inv-loop μ-loop
 large-buffer-requires c κs = tt
 
@@ -48,44 +58,39 @@ make-requires : tie.Need-make-requires Inv-loop μ-loop
 make-requires c κs = tt
 
 sub-write-answer : tie.Need-sub-write-answer Inv-loop μ-loop
-sub-write-answer c =
-    let at-field-end = c .before .before .before .before .before .before .before .before .before .before .before .before .before .before .before .before .before .before in
-    omega (arith, at-field-end .field-end .ensures .behind)
+sub-write-answer c = omega (arith, found (made c) .field-end .ensures .behind)
 
 part-write-answer-start : tie.Need-part-write-answer-start Inv-loop μ-loop
-part-write-answer-start c =
-    let at-field-end = c .before .before .before .before .before .before .before .before .before .before .before .before .before .before .before .before .before .before .before in
-    omega (arith, at-field-end .field-end .ensures .behind)
+part-write-answer-start c = omega (arith, found (made (c .before)) .field-end .ensures .behind)
 
 part-write-answer-end : tie.Need-part-write-answer-end Inv-loop μ-loop
 part-write-answer-end c =
-    let at-19 = c .before .before .before .before .before .before .before .before .before .before .before .before .before .before .before .before .before .before .before in
-    let f = at-19 in omega (arith, inside f, f .before .before .before .before .before .before .read-list .ensures)
+    let f = found (made (c .before)) in
+    omega (arith, inside f, f .before .before .before .before .before .before .read-list .ensures)
 
 slice-aggregate-write-answer : tie.Need-slice-aggregate-write-answer Inv-loop μ-loop
-slice-aggregate-write-answer c =
-    let at-loop = c .before .before .before .before .before .before .before .before .before .before .before .before .before .before .before .before .before .before .before .before .before .before .before .before .before in
-    at-loop .loop .inv .5
+slice-aggregate-write-answer c = turn (found (made (c .before .before .before .before))) .loop .inv .5
 
 write-answer-requires : tie.Need-write-answer-requires Inv-loop μ-loop
 write-answer-requires c κs =
-    let m = c .before .before .before .before .before .before .before .before .before .before .before .before .before .before in
-    (m .make .ensures .ordered, omega (arith, m .before .before .before .before .before .before .before .before .before .before .before .loop .inv .5))
+    let m = made (c .before .before .before .before) in
+    (m .make .ensures .ordered, omega (arith, turn (found m) .loop .inv .5))
 
 next-requires : tie.Need-next-requires Inv-loop μ-loop
 next-requires c κs = tt
 
 loop-less : tie.Need-loop-less Inv-loop μ-loop
 loop-less c =
-    let e = c .before .before .before .before .before .before .before .before .before .before .before .before .before .before .before .before .before .before .before .before .before .before .before .before .before in
+    let e = found (made (c .before .before .before .before .before .before .before)) in
     omega (arith, c .next .ensures _ (e .field-end .ensures .behind) (e .before .before .loop-test .taken))
 
 loop-again : tie.Need-loop-again Inv-loop μ-loop
 loop-again c =
-    let d = c .before .before .before .before .before .before .before .before in
+    let s = c .before .before .before .before .before .before .before in
+    let d = s .before in
     let b = d .before .before .before .before in
     let n = b .before .before .before .before in
-    let i = n .before .before .before .before .before .before .before .before .before .before .before .before .loop .inv in
+    let i = turn (found (made s)) .loop .inv in
     (n .numbers .given ∙ i .0, b .before .before .a .given ∙ i .1, b .b .given ∙ i .2, d .before .before .c .given ∙ i .3, d .d .given ∙ i .4, omega (arith, i .5, c .before .before .write-answer .kept .1 .1 .1 .0))
 
 same-length : tie.Need-same-length Inv-loop μ-loop

@@ -6,6 +6,19 @@ use Rattle.lines.proofs.Samples.{sample-told}
 use Rattle.lines.proofs.sampling.sample.Statement.{statement}
 use Rattle.lines.proofs.sampling.sample.Tie as tie
 
+-- Earlier contexts, as later ones see them: the slices are back, the call was made, and each slice was counted up for it.
+abbrev returned : tie.After-replied → tie.After-scratch2
+returned c = c .before .before .before .before .before .before .before .before .before
+
+abbrev called : tie.After-replied → tie.After-sample
+called c = returned c .before .before .before
+
+abbrev scratch-counted : tie.After-sample → tie.After-scratch
+scratch-counted s = s .before .before .before .before .before .before .before
+
+abbrev indices-counted : tie.After-sample → tie.After-indices
+indices-counted s = scratch-counted s .before .before .before .before
+
 count-from-requires : tie.Need-count-from-requires
 count-from-requires c κs = tt
 
@@ -40,29 +53,23 @@ replied-requires : tie.Need-replied-requires
 replied-requires c κs = tt
 
 same-length : tie.Need-same-length
-same-length c =
-    let at-indices2 = c .before .before .before .before .before .before .before .before .before .before .before in
-    let at-indices = at-indices2 .before .before .before .before .before .before .before .before .before .before .before .before in
-    at-indices2 .indices2 .given ∙ at-indices .indices .given
+same-length c = returned c .before .before .indices2 .given ∙ indices-counted (called c) .indices .given
 
 same-length-2 : tie.Need-same-length-2
-same-length-2 c =
-    let at-scratch2 = c .before .before .before .before .before .before .before .before .before in
-    let at-scratch = at-scratch2 .before .before .before .before .before .before .before .before .before .before in
-    at-scratch2 .scratch2 .given ∙ at-scratch .scratch .given
+same-length-2 c = returned c .scratch2 .given ∙ scratch-counted (called c) .scratch .given
 
 returns : tie.Need-returns
 returns c =
     let digested = c .before .before .before .before in
     let at-clipped = digested .before .before in
-    let called = at-clipped .before .before .before .before .before .before in
-    let at-number3 = called .before .before .before in
+    let s = at-clipped .before .before .before .before .before .before in
+    let at-number3 = s .before .before .before in
     let at-number2 = at-number3 .before in
     let asked = at-number2 .before in
     let at-count-from2 = asked .before .before .before in
     let counted = at-count-from2 .before .before .before .before in
-    let call = rw (counted .count-from .ensures, at-count-from2 .count-from2 .ensures) at (called .sample .ensures) in
-    sample-told _ _ _ _ _ _ _ _ _ _ _ _ _ (called .sample .result) _ (asked .number .ensures) (at-number2 .number2 .ensures) (at-number3 .number3 .ensures) call (c .before .number4 .ensures) (at-clipped .clipped .ensures) (digested .digest .ensures .0) (c .before .before .digest2 .ensures .0) (c .replied .ensures)
+    let call = rw (counted .count-from .ensures, at-count-from2 .count-from2 .ensures) at (s .sample .ensures) in
+    sample-told _ _ _ _ _ _ _ _ _ _ _ _ _ (s .sample .result) _ (asked .number .ensures) (at-number2 .number2 .ensures) (at-number3 .number3 .ensures) call (c .before .number4 .ensures) (at-clipped .clipped .ensures) (digested .digest .ensures .0) (c .before .before .digest2 .ensures .0) (c .replied .ensures)
 
 pub sample-spec : {M : Type 1} → statement M
 sample-spec =
