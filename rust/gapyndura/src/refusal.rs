@@ -120,7 +120,10 @@ impl Error for Refusal {}
 
 #[cfg(test)]
 mod tests {
+    extern crate std;
+
     use super::{ALL, Refusal};
+    use std::string::ToString;
 
     #[test]
     fn numbers_run_from_1_to_13() {
@@ -129,5 +132,30 @@ mod tests {
             assert_eq!(Refusal::from_number(number), refusal);
         }
         assert_eq!(Refusal::BudgetExhausted.number(), 13);
+    }
+
+    /// A word of each cause, by its number: texts that are exchanged, here and in the C header alike, lack it.
+    #[test]
+    fn a_text_has_a_word_of_its_cause() {
+        let words = [
+            "above the length",
+            "no weights",
+            "sum above",
+            "every weight is 0",
+            "above the one before",
+            "below the count",
+            "cumulative",
+            "too few entries",
+            "scratch",
+            "too large",
+            "what remains",
+            "state are 0",
+            "budget",
+        ];
+        assert_eq!(words.len(), ALL.len());
+        for (refusal, word) in ALL.into_iter().zip(words) {
+            let text = refusal.to_string();
+            assert!(text.contains(word), "{}: {text}", refusal.number());
+        }
     }
 }
