@@ -1,19 +1,15 @@
 -- The two turns of a choice, as the code takes them.
 -- Assumes nothing.
-use mathlib.Core.Path.{_≡_, refl, sym}
+use mathlib.Core.Path.{_≡_, sym}
 use mathlib.Core.Bool.{true, false}
 use mathlib.Core.List.{List, [], _∷_}
 use Prim.Native.Nat.{ℕ, _+_, _-_, _≤_, _<_}
 use native.Mathlib.Nat.{add-zero}
 use native.Mathlib.Numerals.{add-one}
 use native.Mathlib.Omega.{arith}
-use lib.Dec.{eqb}
 use lib.ListN.{length, drop, getD, drop-of-length-le}
 use lib.Seq.{getD-drop, drop-cons}
 use borrow.Author.Tests.{lt-ltb, le-ltb}
-use Rattle.refusal.specs.Number.{number}
-use Rattle.refusal.specs.declared.Refusal.{Refusal}
-use Rattle.refusal.specs.declared.Refusal.the-variants.{AmountExceedsLength, NoWeights, Overflow, InsufficientNonZero, PlacesNotIncreasing, PlaceOutOfRange, InvalidTable, SliceTooShort, ScratchTooShort, TooLong, InvalidHints, ZeroState, BudgetExhausted}
 use Rattle.uniform_int.specs.Rejecting.{shown}
 use Rattle.uniform_int.specs.Within.{boundedWithin}
 use Rattle.uniform_int.specs.declared.Sampled.{Sampled}
@@ -26,22 +22,6 @@ use Rattle.coin_flipper.specs.declared.Flip.the-variants.{Yes, No, Spent}
 use Rattle.coin_flipper.specs.declared.Flipped.{Flipped}
 use Rattle.choose.specs.Turns.{heldAt, turned, byCoin, byDraw}
 use Rattle.choose.specs.Choose.{turnOf}
-
--- every refusal has a number above 0
-pub some-number : (why : Refusal) → eqb (number why) 0 ≡ false
-some-number AmountExceedsLength = refl
-some-number NoWeights = refl
-some-number Overflow = refl
-some-number InsufficientNonZero = refl
-some-number PlacesNotIncreasing = refl
-some-number PlaceOutOfRange = refl
-some-number InvalidTable = refl
-some-number SliceTooShort = refl
-some-number ScratchTooShort = refl
-some-number TooLong = refl
-some-number InvalidHints = refl
-some-number ZeroState = refl
-some-number BudgetExhausted = refl
 
 -- what is held at a place of the items, and past the last
 pub held-item : (items : List ℕ) (p : ℕ) → p < length items → heldAt items p ≡ getD items p 0 ∷ []

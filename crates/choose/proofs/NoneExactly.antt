@@ -22,7 +22,7 @@ use Rattle.coin_flipper.proofs.Laws.{one-over-one}
 use Rattle.choose.specs.Turns.{ending, after, given, taking, byCoin, drawing, byDraw}
 use Rattle.choose.specs.Stable.{stableFrom}
 use Rattle.choose.specs.Choose.{exactly, turnOf, drawnLast, chooseFrom, checkOf, chooseOf, chooseStableOf}
-use Rattle.choose.proofs.ChoiceTurns.{some-number}
+use Rattle.refusal.proofs.Outcomes.{refused-number}
 use Rattle.choose.proofs.ChooseCases.{told, choose-refused, stable-refused, stable, known, unknown}
 
 -- the call does not end in "none"
@@ -33,7 +33,7 @@ some-item : (x : ℕ) (xs : List ℕ) → done (x ∷ xs) ≡ done [] → ⊥
 some-item x xs e = let v = ap (λ (a : Answer). a .values) e in let z : _≡_ {A = ℕ} 0 1 = cc in omega arith
 
 some-refusal : (why : Refusal) → declined why ≡ done [] → ⊥
-some-refusal why e = eqb-false (number why) 0 (some-number why) (ap (λ (a : Answer). a .number) e)
+some-refusal why e = eqb-false (number why) 0 (refused-number why) (ap (λ (a : Answer). a .number) e)
 
 -- what goes on with an item does not
 abbrev Keeps : (List ℕ → Coins → Drawing) → Type 0

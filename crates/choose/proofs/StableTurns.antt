@@ -1,20 +1,13 @@
 -- The stable choice: the Rust's groups, and `choose` with no hints, come to one question for each item in order.
 -- Assumes nothing.
-use mathlib.Core.Path.{_≡_, refl, sym, ap, _∙_}
+use mathlib.Core.Path.{_≡_, refl}
 use mathlib.Core.Bool.{Bool, true, false, cond}
 use mathlib.Core.List.{List, [], _∷_}
-use Prim.Native.Nat.{ℕ, zero, suc, _+_, _≤_, _<_}
-use native.Mathlib.Numerals.{add-one}
-use native.Mathlib.Omega.{arith}
-use lib.Dec.{ltb, eqb}
-use lib.ListN.{length, drop, getD, drop-of-length-le}
-use lib.Seq.{drop-cons}
-use borrow.Author.Tests.{eqb-true}
+use Prim.Native.Nat.{ℕ, zero, suc}
+use lib.Dec.{ltb}
+use lib.ListN.{getD}
 use Rattle.uniform_int.specs.Rejecting.{Drawing}
-use Rattle.coin_flipper.specs.Within.{Coins, Flipping, oneOverWithin}
-use Rattle.coin_flipper.specs.State.{seen, Held}
-use Rattle.coin_flipper.specs.declared.CoinFlipper.{CoinFlipper}
-use Rattle.coin_flipper.proofs.Laws.{held-more}
+use Rattle.coin_flipper.specs.Within.{Coins, oneOverWithin}
 use Rattle.choose.specs.Turns.{after, given, taking, byCoin}
 use Rattle.choose.specs.Stable.{stableFrom, latest, stableByHints}
 use Rattle.choose.specs.Choose.{turnOf, chooseFrom}

@@ -3,9 +3,8 @@ use mathlib.Core.Bool.{cond}
 use mathlib.Core.List.{List, []}
 use Prim.Native.Nat.{ℕ, _-_}
 use lib.Dec.{eqb}
-use lib.ListN.{getD}
 use Rattle.xoshiro256plusplus.specs.declared.Xoshiro256PlusPlus.{Xoshiro256PlusPlus}
-use Rattle.weighted_index.specs.Answers.{Making, Reply}
+use Rattle.weighted_index.specs.Answers.{Making, Reply, recordIn}
 use Rattle.weighted_index.specs.New.{newOf}
 use Rattle.weighted_index.specs.Lookup.{weightOf}
 use Rattle.weighted_index.specs.declared.answer.WeightedIndex.{WeightedIndex}
@@ -14,13 +13,9 @@ use Rattle.lines.specs.Slices.{blank, digestFrom}
 use Rattle.lines.specs.Picks.{Picking, picksOf}
 use Rattle.lines.specs.Told.{Told}
 
--- the record that an answer has: the count, then the total
-abbrev pub recordOf : List ℕ → WeightedIndex
-recordOf l = record { count = getD l 0 0; «total_weight» = getD l 1 0 }
-
 -- a table that was made is changed; a refusal stays what it is
 unfoldable pub changed : Making → (places weights : List ℕ) → Making
-changed m ps vs = cond (eqb (m .answer .number) 0) (updateOf (recordOf (m .answer .values)) (m .sums) ps vs) m
+changed m ps vs = cond (eqb (m .answer .number) 0) (updateOf (recordIn (m .answer .values)) (m .sums) ps vs) m
 
 -- the table of the weights ws, in so many entries, with the weights vs at the places ps
 unfoldable pub tableOf : (ws ps vs : List ℕ) (sums : ℕ) → Making
@@ -43,9 +38,9 @@ weightTold g sums r = record { number = r .answer .number; words = r .words; rng
 -- n picks from a table, each from what the one before has left of the budget
 unfoldable pub pickFrom : (n budget : ℕ) → Xoshiro256PlusPlus → Making → Told
 pickFrom n budget g m =
-    cond (eqb (m .answer .number) 0) (picksTold budget (m .sums) (picksOf n g (recordOf (m .answer .values)) (m .sums) budget)) (refusedTold g m)
+    cond (eqb (m .answer .number) 0) (picksTold budget (m .sums) (picksOf n g (recordIn (m .answer .values)) (m .sums) budget)) (refusedTold g m)
 
 -- the weight at a place of a table
 unfoldable pub lookFrom : (place : ℕ) → Xoshiro256PlusPlus → Making → Told
 lookFrom place g m =
-    cond (eqb (m .answer .number) 0) (weightTold g (m .sums) (weightOf (recordOf (m .answer .values)) (m .sums) place)) (refusedTold g m)
+    cond (eqb (m .answer .number) 0) (weightTold g (m .sums) (weightOf (recordIn (m .answer .values)) (m .sums) place)) (refusedTold g m)

@@ -25,6 +25,11 @@ abbrev pub decided : Option Refusal → List ℕ → Answer
 decided none vs = done vs
 decided (some why) vs = declined why
 
+-- the first of two refusals
+abbrev pub orElse : Option Refusal → Option Refusal → Option Refusal
+orElse none later = later
+orElse (some why) later = some why
+
 -- what a refusal has left to count: no value where that is nothing
 abbrev pub counted : ℕ → List ℕ
 counted zero = []

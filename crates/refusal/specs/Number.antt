@@ -1,7 +1,7 @@
--- The numbers of document 01's table of refusals.
+-- The numbers of document 01's table of refusals, which document 02 goes on with.
 use Prim.Native.Nat.{ℕ}
 use Rattle.refusal.specs.declared.Refusal.{Refusal}
-use Rattle.refusal.specs.declared.Refusal.the-variants.{AmountExceedsLength, NoWeights, Overflow, InsufficientNonZero, PlacesNotIncreasing, PlaceOutOfRange, InvalidTable, SliceTooShort, ScratchTooShort, TooLong, InvalidHints, ZeroState, BudgetExhausted}
+use Rattle.refusal.specs.declared.Refusal.the-variants.{AmountExceedsLength, NoWeights, Overflow, InsufficientNonZero, PlacesNotIncreasing, PlaceOutOfRange, InvalidTable, SliceTooShort, ScratchTooShort, TooLong, InvalidHints, ZeroState, BudgetExhausted, ContentsCutShort, UnknownKind, LayoutMismatch}
 
 -- the row of the table
 abbrev pub number : Refusal → ℕ
@@ -18,3 +18,6 @@ number TooLong = 10
 number InvalidHints = 11
 number ZeroState = 12
 number BudgetExhausted = 13
+number ContentsCutShort = 14
+number UnknownKind = 15
+number LayoutMismatch = 16

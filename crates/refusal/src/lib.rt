@@ -1,4 +1,5 @@
-// Why a call is declined. The rows of document 01's table, in its order; the comment at each has that table's word for it.
+// Why a call is declined. The rows of document 01's table, in its order, the comment at each with that table's word for it; then those that
+// document 02 adds.
 ghost use mathlib.Core.Path.{_≡_};
 ghost use Rattle.refusal.specs.Answer.{answerOf};
 ghost use Rattle.refusal.specs.Number.{number};
@@ -30,6 +31,12 @@ pub enum Refusal {
     ZeroState,
     // "spent": a word is needed, and as many as the budget allows have been read.
     BudgetExhausted,
+    // A draw book's count is above 64 or missing, or its contents are cut short.
+    ContentsCutShort,
+    // A job of a draw book has a kind that is not known.
+    UnknownKind,
+    // The bodies of a draw book do not lie as its contents say, or it is too long.
+    LayoutMismatch,
 }
 
 impl Refusal {
@@ -51,6 +58,9 @@ impl Refusal {
             Refusal::InvalidHints => 11,
             Refusal::ZeroState => 12,
             Refusal::BudgetExhausted => 13,
+            Refusal::ContentsCutShort => 14,
+            Refusal::UnknownKind => 15,
+            Refusal::LayoutMismatch => 16,
         }
     }
 }

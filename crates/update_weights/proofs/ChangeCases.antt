@@ -9,14 +9,14 @@ use native.Mathlib.Omega.{arith}
 use lib.Dec.{eqb}
 use lib.ListN.{length, getD}
 use borrow.Author.Tests.{lt-ltb, le-ltb, eq-eqb, ne-eqb, eqb-true, eqb-false}
-use Rattle.refusal.specs.Answer.{Answer, done, declined, decided}
+use Rattle.refusal.specs.Answer.{Answer, done, declined, decided, orElse}
 use Rattle.refusal.specs.declared.Refusal.{Refusal}
 use Rattle.refusal.specs.declared.Refusal.the-variants.{Overflow, InsufficientNonZero, InvalidTable, SliceTooShort, TooLong}
 use Rattle.weighted_index.specs.Weights.{mostWeights, mostTotal, total}
 use Rattle.weighted_index.specs.Tables.{heldSums, brokenTable, heldWeights}
 use Rattle.weighted_index.specs.Answers.{accepted, refuses}
 use Rattle.weighted_index.specs.New.{makes}
-use Rattle.update_weights.specs.Change.{replaced, placesRefusal, weightsRefusal, orElse, itemsRefusal, listsRefusal, settled, updateOf, answerOfChecked, checkOf}
+use Rattle.update_weights.specs.Change.{replaced, placesRefusal, weightsRefusal, itemsRefusal, listsRefusal, settled, updateOf, answerOfChecked, checkOf}
 use Rattle.weighted_index.specs.declared.answer.WeightedIndex.{WeightedIndex}
 use Rattle.update_weights.specs.declared.Checked.{Checked}
 use Rattle.update_weights.specs.declared.Checked.the-variants.{Total, Refused}

@@ -6,7 +6,7 @@ use mathlib.Core.Option.{Option, none, some}
 use Prim.Native.Nat.{ℕ, suc}
 use lib.Dec.{ltb, leb, eqb}
 use lib.ListN.{length, set}
-use Rattle.refusal.specs.Answer.{Answer, done, declined, decided}
+use Rattle.refusal.specs.Answer.{Answer, done, declined, decided, orElse}
 use Rattle.refusal.specs.declared.Refusal.{Refusal}
 use Rattle.refusal.specs.declared.Refusal.the-variants.{Overflow, InsufficientNonZero, PlacesNotIncreasing, PlaceOutOfRange, InvalidTable, SliceTooShort, TooLong}
 use Rattle.weighted_index.specs.Weights.{mostWeights, total, overflows, allZero}
@@ -36,11 +36,6 @@ placesRefusal count least (p ∷ ps) =
 -- the refusal of weights that make no table: they add up to too much, or all of them are 0
 unfoldable pub weightsRefusal : (ws : List ℕ) → Option Refusal
 weightsRefusal ws = cond (overflows ws) (some Overflow) (cond (allZero ws) (some InsufficientNonZero) none)
-
--- the first of two refusals
-abbrev pub orElse : Option Refusal → Option Refusal → Option Refusal
-orElse none later = later
-orElse (some why) later = some why
 
 -- the first refusal of the items: of their places in turn, and after all of them of the weights that the whole list leaves
 unfoldable pub itemsRefusal : (ws ps vs : List ℕ) → Option Refusal

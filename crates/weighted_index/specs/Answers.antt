@@ -1,6 +1,7 @@
 -- What the calls on tables answer, as their promises state it.
 use mathlib.Core.List.{List, [], _∷_}
 use Prim.Native.Nat.{ℕ}
+use lib.ListN.{getD}
 use Rattle.refusal.specs.Answer.{Answer, done, declined}
 use Rattle.refusal.specs.declared.Refusal.{Refusal}
 use Rattle.weighted_index.specs.declared.answer.WeightedIndex.{WeightedIndex}
@@ -17,6 +18,10 @@ use Rattle.weighted_index.specs.declared.answer.Lookup.{Lookup}
 abbrev pub answerOfMade : Made → Answer
 answerOfMade (made.Table t) = done (t .count ∷ t .«total_weight» ∷ [])
 answerOfMade (made.Refused why) = declined why
+
+-- and back: the record that such values are
+abbrev pub recordIn : List ℕ → WeightedIndex
+recordIn l = record { count = getD l 0 0; «total_weight» = getD l 1 0 }
 
 -- a weight, or no value where there is none at that place
 abbrev pub answerOfLooked : Looked → Answer

@@ -25,7 +25,7 @@ returns : tie.Need-returns
 returns c =
     let at-if1 = c .before .before .before .before .before in
     let start = at-if1 .before .before .before in
-    wronged (start .args .r) (now (start .args .block)) _ _ (not-true _ (at-if1 .if1 .taken)) (c .before .before .append .ensures)
+    wronged (start .args .r) (now (start .args .block)) _ _ (not-true _ (at-if1 .if1 .taken)) (c .before .before .append .ensures .holds)
 
 cast-append-decimal : tie.Need-cast-append-decimal
 cast-append-decimal c = search needs
@@ -64,7 +64,7 @@ append-requires-3 c κs =
     let e = at-append2 .append2 in
     let n = at-append-number .append-number in
     let kept = at-block3 .block3 .given in
-    let fits = ends-at (n .last .0) (e .last .0) (32 ∷ []) (n .result) (e .result) (n .ensures .0 .within) (e .ensures) in
+    let fits = ends-at (n .last .0) (e .last .0) (32 ∷ []) (n .result) (e .result) (n .ensures .0 .within) (e .ensures .holds) in
     omega (arith, at-block4 .block4 .given, kept, at-block2 .block2 .given, at-append-decimal .append-decimal .ensures .1, n .ensures .1, fits, ap length (c .before .spell-seed .ensures), seed-length (start .args .r .rng))
 
 append-number-requires-2 : tie.Need-append-number-requires-2
@@ -80,8 +80,8 @@ append-number-requires-2 c κs =
     let s = c .before .before .before .append3 in
     let e = at-append2 .append2 in
     let n = at-append-number .append-number in
-    let fits = ends-at (n .last .0) (e .last .0) (32 ∷ []) (n .result) (e .result) (n .ensures .0 .within) (e .ensures) in
-    let spelled = ends-at (e .last .0) (s .last .0) (at-spell-seed .spell-seed .result) (e .result) (s .result) (e .ensures .within) (s .ensures) in
+    let fits = ends-at (n .last .0) (e .last .0) (32 ∷ []) (n .result) (e .result) (n .ensures .0 .within) (e .ensures .holds) in
+    let spelled = ends-at (e .last .0) (s .last .0) (at-spell-seed .spell-seed .result) (e .result) (s .result) (e .ensures .holds .within) (s .ensures .holds) in
     let first = at-append-decimal .append-decimal in
     let entry = now (start .args .block) in
     let k₁ : length (s .last .0) ≡ length (e .last .0) = c .before .before .block5 .given in
@@ -103,7 +103,7 @@ returns-2 c =
     let at-append-decimal = at-append-number .before .before .before .before in
     let at-if1 = at-append-decimal .before .before .before in
     let start = at-if1 .before .before .before in
-    fronted (start .args .r) (now (start .args .block)) _ _ _ _ _ _ _ _ _ _ _ _ (not-false _ (at-if1 .if1 .left)) refl (at-spell-seed .spell-seed .ensures) (at-append-decimal .append-decimal .ensures .0) (at-append-number .append-number .ensures .0) (at-append2 .append2 .ensures) (at-append3 .append3 .ensures) (c .before .before .append-number2 .ensures .0)
+    fronted (start .args .r) (now (start .args .block)) _ _ _ _ _ _ _ _ _ _ _ _ (not-false _ (at-if1 .if1 .left)) refl (at-spell-seed .spell-seed .ensures) (at-append-decimal .append-decimal .ensures .0) (at-append-number .append-number .ensures .0) (at-append2 .append2 .ensures .holds) (at-append3 .append3 .ensures .holds) (c .before .before .append-number2 .ensures .0)
 
 pub spell-front-spec : {M : Type 1} → statement M
 spell-front-spec =
