@@ -5,9 +5,9 @@ use mathlib.Core.List.{List, _++_}
 use Prim.Native.Nat.{ℕ, _+_, _≤_, _<_}
 use native.Mathlib.Numerals.{add-one}
 use native.Mathlib.Omega.{arith}
-use lib.ListN.{length, take, set, getD, length-set}
-use lib.Seq.{paste, paste-zero, paste-suc, take-paste, take-length}
-use Rattle.command_line.specs.Block.{Holds}
+use lib.ListN.{length, take, drop, set, getD, length-set}
+use lib.Seq.{paste, paste-zero, paste-suc, take-paste, drop-paste, take-length}
+use Rattle.command_line.specs.Block.{Appends}
 
 -- the first i bytes of the text stand behind those that the block held
 pub record Copied (entry now text : List ℕ) (used i : ℕ) : Type 0 where
@@ -27,8 +27,11 @@ turn entry now text used i h room c =
       known = ap (λ (l : List ℕ). set l (used + i) (getD text i 0)) (c .known) ∙ next;
     }
 
-pub finish : (entry now text : List ℕ) (used i : ℕ) → length text ≤ i → used + length text ≤ length entry → Copied entry now text used i → Holds now (used + i) (take used entry ++ text)
+pub finish : (entry now text : List ℕ) (used i : ℕ) → length text ≤ i → used + length text ≤ length entry → Copied entry now text used i → Appends entry now used (used + i) text
 finish entry now text used i h room c =
     let all : i ≡ length text = omega (arith, c .within) in
     let front : take (used + i) now ≡ take used entry ++ take i text = ap (take (used + i)) (c .known) ∙ take-paste entry used text i (omega arith) (c .within) in
-    record { within = omega (arith, c .full); front = front ∙ rw (all, take-length text) }
+    record {
+      holds = record { within = omega (arith, c .full); front = front ∙ rw (all, take-length text) };
+      rest = ap (drop (used + i)) (c .known) ∙ drop-paste entry used text i (omega arith) (c .within);
+    }

@@ -42,7 +42,7 @@ is-digit d h = rw (counts d h, lt-ltb d 16 h)
 
 -- ---- bytes
 
-Bytes : List ℕ → Type 0
+unfoldable pub Bytes : List ℕ → Type 0
 Bytes [] = Unit
 Bytes (b ∷ bs) = (b < 256) × Bytes bs
 
@@ -51,7 +51,7 @@ unfolding Bytes
 bytes-append [] t p q = q
 bytes-append (b ∷ s) t p q = (p .0, bytes-append s t (p .1) q)
 
-all-digits : (bs : List ℕ) → Bytes bs → every (isDigit 16) (hexText bs) ≡ true
+pub all-digits : (bs : List ℕ) → Bytes bs → every (isDigit 16) (hexText bs) ≡ true
 unfolding hexText every Bytes
 all-digits [] p = refl
 all-digits (b ∷ bs) p =
@@ -59,7 +59,7 @@ all-digits (b ∷ bs) p =
     rw (is-digit (b / 16) (omega arith), is-digit (b % 16) (omega arith)) (all-digits bs (p .1))
 
 -- two digits of a byte are that byte
-back : (bs : List ℕ) → Bytes bs → bytesOf (hexText bs) ≡ bs
+pub back : (bs : List ℕ) → Bytes bs → bytesOf (hexText bs) ≡ bs
 unfolding hexText bytesOf Bytes
 back [] p = refl
 back (b ∷ bs) p =
@@ -98,11 +98,11 @@ module _ (g : Xoshiro256PlusPlus) where
   abbrev w3 : List ℕ
   w3 = wordBytes 8 (g .s3)
 
-  length-state : length (stateBytes g) ≡ 32
+  pub length-state : length (stateBytes g) ≡ 32
   unfolding stateBytes
   length-state = simp (length-append, length-word)
 
-  bytes-state : Bytes (stateBytes g)
+  pub bytes-state : Bytes (stateBytes g)
   unfolding stateBytes
   bytes-state =
       bytes-append w0 (w1 ++ (w2 ++ w3)) (word-bytes 8 (g .s0))
@@ -139,10 +139,10 @@ module _ (g : Xoshiro256PlusPlus) where
     unfolding fourWords
     state-back = rw (at-0, at-8, at-16, at-24)
 
-    same-state : zeroState g ≡ false → fromSeed (stateBytes g) ≡ g
+    pub same-state : zeroState g ≡ false → fromSeed (stateBytes g) ≡ g
     same-state z = sym (from-words (stateBytes g) length-state (rw state-back z)) ∙ state-back
 
-hex-text : (g : Xoshiro256PlusPlus) → isHex (hexText (stateBytes g)) ≡ true
+pub hex-text : (g : Xoshiro256PlusPlus) → isHex (hexText (stateBytes g)) ≡ true
 unfolding isHex
 hex-text g = rw (eq-eqb (length (hexText (stateBytes g))) 64 (length-text (stateBytes g) ∙ omega (arith, length-state g))) (all-digits (stateBytes g) (bytes-state g))
 

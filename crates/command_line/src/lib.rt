@@ -6,4 +6,5 @@ pub mod fields;
 pub mod listing;
 pub mod numbers;
 pub mod seed;
+pub mod seed_bytes;
 pub mod spell;

@@ -20,7 +20,7 @@ pub enum Seed {
 }
 
 // Whether a text is 64 hex digits.
-fn is_hex(text: &[u8]) -> bool
+pub(crate) fn is_hex(text: &[u8]) -> bool
     ensures { λ r. ⌜ r ≡ isHex (now (text .entry)) ⌝ }
 {
     if text.len() != 64 {
@@ -38,7 +38,7 @@ fn byte(high: u8, low: u8) -> u8
 }
 
 // The bytes of 64 hex digits, two digits to a byte.
-fn bytes(text: &[u8]) -> [u8; 32]
+pub(crate) fn bytes(text: &[u8]) -> [u8; 32]
     requires { ⌜ (length (now text) ≡ 64) × (every (isDigit 16) (now text) ≡ true) ⌝ }
     ensures { λ r. ⌜ r ≡ bytesOf (now (text .entry)) ⌝ }
 {

@@ -1,8 +1,9 @@
 // A generator as a seed that gives it back.
 ghost use mathlib.Core.Path.{_≡_};
 ghost use mathlib.Core.List.{_++_};
-ghost use Prim.Native.Nat.{_+_, _/_, _%_, _<_, _≤_};
+ghost use Prim.Native.Nat.{_+_, _*_, _/_, _%_, _<_, _≤_};
 ghost use lib.ListN.{length, take, drop};
+ghost use Rattle.command_line.specs.Block.{Holds};
 ghost use Rattle.command_line.specs.Spell.{hexDigit, hexText, wordBytes, seedText};
 use xoshiro256plusplus::Xoshiro256PlusPlus;
 
@@ -56,4 +57,18 @@ pub fn spell_seed(rng: Xoshiro256PlusPlus) -> [u8; 64]
     put_word(&mut text, 32, rng.s2);
     put_word(&mut text, 48, rng.s3);
     text
+}
+
+// Puts the hex digits of bytes behind the `used` bytes that a block holds, two for every byte: the definition `hexText`. Answers how many it holds then.
+pub fn append_hex(block: &mut [u8], used: usize, bytes: &[u8]) -> usize
+    requires { ⌜ used + 2 * length (now bytes) ≤ length (now block) ⌝ }
+    ensures { λ r. ⌜ Holds (now (block .exit)) r (take used (now (block .entry)) ++ hexText (now (bytes .entry))) ⌝ }
+{
+    let mut at = used;
+    for i in 0..bytes.len() {
+        block[at] = upper_digit(bytes[i]);
+        block[at + 1] = lower_digit(bytes[i]);
+        at += 2;
+    }
+    at
 }

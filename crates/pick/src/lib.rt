@@ -59,8 +59,9 @@ fn partition_point(sums: &[u32], n: usize, total: u32, c: u32) -> usize
     low + step_over(1, sums[low], c)
 }
 
-// A pick from a table that is known to be whole: `sample` after its checks. Cost: a binary search of the sums.
-fn sample_whole(
+// A pick from a table that is known to be whole: `sample` after its checks. For callers that have just made the table and pick from it many times.
+// Cost: a binary search of the sums.
+pub fn sample_whole(
     rng: Xoshiro256PlusPlus,
     table: WeightedIndex,
     cumulative_weights: &[u32],

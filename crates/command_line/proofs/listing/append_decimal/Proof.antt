@@ -36,7 +36,7 @@ returns c =
     let d = at-decimal .decimal in
     let s = start .args in
     let small : s .x < 2 ^ 64 = search needs in
-    behind (now (s .block)) _ (d .last .1 .0) (s .used) _ (s .x) (d .result) (omega arith) (d .ensures .0 .0) small (d .ensures .1 .0) (d .ensures .1 .1) (c .before .before .append .ensures)
+    behind (now (s .block)) _ (d .last .1 .0) (s .used) _ (s .x) (d .result) (omega arith) (d .ensures .0 .0) small (d .ensures .1 .0) (d .ensures .1 .1) (c .before .before .append .ensures .holds)
 
 pub append-decimal-spec : {M : Type 1} → statement M
 append-decimal-spec =

@@ -20,7 +20,7 @@ append-decimal-requires c κs =
     let s = c .before .before .before .before .before .before .before .args in
     let a = c .before .before .before .append in
     let kept : length (a .last .0) ≡ length (now (s .block)) = search needs in
-    omega (arith, kept, ends-at (now (s .block)) (a .last .0) (s .before ∷ []) (s .used) (a .result) (omega arith) (a .ensures))
+    omega (arith, kept, ends-at (now (s .block)) (a .last .0) (s .before ∷ []) (s .used) (a .result) (omega arith) (a .ensures .holds))
 
 same-length : tie.Need-same-length
 same-length c = search needs
@@ -32,7 +32,7 @@ returns c =
     let s = start .args in
     let a = at-append .append in
     let b = c .before .before .append-decimal in
-    behind-both (now (s .block)) (a .last .0) _ (s .used) (a .result) _ (s .before) (s .x) (omega arith) (a .ensures) (b .ensures .0) (b .ensures .1)
+    behind-both (now (s .block)) (a .last .0) _ (s .used) (a .result) _ (s .before) (s .x) (omega arith) (a .ensures .holds) (b .ensures .0) (b .ensures .1)
 
 pub append-number-spec : {M : Type 1} → statement M
 append-number-spec =
