@@ -9,9 +9,9 @@
 
 #include <gapyndura.h>
 
-/* The calls are made as version 4 has them; CHANGELOG.md says what a later one changes. */
-#if GAPYNDURA_VERSION != 4
-#error "this program is written for version 4 of gapyndura.h"
+/* The calls are made as version 5 has them; CHANGELOG.md says what a later one changes. */
+#if GAPYNDURA_VERSION != 5
+#error "this program is written for version 5 of gapyndura.h"
 #endif
 
 /* The most words that a call may read which could else read on for ever. */
