@@ -18,14 +18,14 @@
 
 /* The version: 1 for the base, and one more with each request (docs/requests/). A caller can test it by #if; CHANGELOG.md says what has
  * to be changed in the caller, if anything has. */
-#define GAPYNDURA_VERSION 4
+#define GAPYNDURA_VERSION 5
 
 #ifdef __cplusplus
 extern "C" {
 #endif
 
 /* What the calls answer, by name: 0 where the call was carried out, else why it is declined. Each call below says which of them it
- * answers, and when. */
+ * answers, and when. 14, 15 and 16 are those of a draw book, which no call here reads: none answers them. */
 enum gapyndura_refusal {
     GAPYNDURA_DONE = 0,
     GAPYNDURA_AMOUNT_EXCEEDS_LENGTH = 1,
@@ -40,10 +40,14 @@ enum gapyndura_refusal {
     GAPYNDURA_TOO_LONG = 10,
     GAPYNDURA_INVALID_HINTS = 11,
     GAPYNDURA_ZERO_STATE = 12,
-    GAPYNDURA_BUDGET_EXHAUSTED = 13
+    GAPYNDURA_BUDGET_EXHAUSTED = 13,
+    GAPYNDURA_CONTENTS_CUT_SHORT = 14,
+    GAPYNDURA_UNKNOWN_KIND = 15,
+    GAPYNDURA_LAYOUT_MISMATCH = 16
 };
 
-/* An answer in words, as a text that is never freed. Any number will do: of one that no call answers the text says just that. */
+/* An answer in words, as a text that is never freed. Any number will do: of one that has no name the text says that no call answers
+ * it. */
 static inline const char *gapyndura_refusal_text(uint32_t number)
 {
     switch (number) {
@@ -61,6 +65,9 @@ static inline const char *gapyndura_refusal_text(uint32_t number)
     case GAPYNDURA_INVALID_HINTS: return "the bounds on what remains do not hold of the items";
     case GAPYNDURA_ZERO_STATE: return "all four words of the generator's state are 0";
     case GAPYNDURA_BUDGET_EXHAUSTED: return "the budget of words is used up";
+    case GAPYNDURA_CONTENTS_CUT_SHORT: return "the book's contents are cut short or of more than 64 jobs";
+    case GAPYNDURA_UNKNOWN_KIND: return "a job of the book is of an unknown kind";
+    case GAPYNDURA_LAYOUT_MISMATCH: return "the book's bodies do not lie as they must, or it is too long";
     default: return "no call answers this number";
     }
 }

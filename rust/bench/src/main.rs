@@ -2,9 +2,11 @@
 
 mod allocation;
 mod before;
+mod books;
 mod choices;
 mod divisions;
 mod generators;
+mod memory;
 mod numbers;
 mod samples;
 mod shuffles;
@@ -59,13 +61,15 @@ struct Asked {
     before: Option<String>,
     /// Whether another build asks.
     serves: bool,
+    /// The Rattle program that runs draw books, to be measured in place of calls.
+    book: Option<String>,
     part: String,
 }
 
 fn main() -> ExitCode {
     let Some(asked) = asked(env::args().skip(1)) else {
         eprintln!(
-            "usage: bench [--quick] [--before ANOTHER BUILD OF BENCH] [PART OF A CASE'S NAME]"
+            "usage: bench [--quick] [--before ANOTHER BUILD OF BENCH | --book PROGRAM] [PART OF A CASE'S NAME]"
         );
         return ExitCode::from(2);
     };
@@ -89,12 +93,14 @@ fn asked(mut words: impl Iterator<Item = String>) -> Option<Asked> {
         plan: PLAN,
         before: None,
         serves: false,
+        book: None,
         part: String::new(),
     };
     while let Some(word) = words.next() {
         match word.as_str() {
             "--quick" => asked.plan = QUICK,
             "--before" => asked.before = Some(words.next()?),
+            "--book" => asked.book = Some(words.next()?),
             before::SERVE => asked.serves = true,
             _ if word.starts_with('-') || !asked.part.is_empty() => return None,
             _ => asked.part = word,
@@ -104,6 +110,9 @@ fn asked(mut words: impl Iterator<Item = String>) -> Option<Asked> {
 }
 
 fn run(asked: &Asked, groups: &[(&'static str, Vec<Case>)]) -> io::Result<()> {
+    if let Some(book) = &asked.book {
+        return books::print(book, &asked.plan);
+    }
     if asked.serves {
         let mut cases = groups.iter().flat_map(|(_, cases)| cases);
         let case = cases.find(|case| case.name() == asked.part);

@@ -88,7 +88,7 @@ impl Plan {
 }
 
 /// The middle of these numbers, or the mean of the two in the middle.
-fn median(mut numbers: Vec<f64>) -> f64 {
+pub fn median(mut numbers: Vec<f64>) -> f64 {
     numbers.sort_by(f64::total_cmp);
     let middle = numbers.len() / 2;
     match numbers.len() % 2 {

@@ -30,6 +30,8 @@ fn what_cannot_be_measured_ends_with_status_2() {
         &["--serve", "no such case"],
         &["--slow"],
         &["5 of 100", "12 of 350"],
+        &["--book"],
+        &["--book", "no such program"],
     ] {
         let output = bench(words);
         assert_eq!(output.status.code(), Some(2), "{words:?}");

@@ -5,8 +5,13 @@ use std::time::Duration;
 use crate::kind::Bound;
 
 /// How the program is called.
-pub const USAGE: &str =
-    "usage: compare [--program PATH] [--seed N] [--seconds N] [--calls N] [--plant NAME]";
+pub const USAGE: &str = "usage: compare [--program PATH] [--book PATH] [--book-text PATH] [--seed N] [--seconds N] \
+     [--calls N] [--plant NAME]";
+
+/// The options that name the Rattle programs.
+pub const PROGRAM: &str = "--program";
+pub const BOOK: &str = "--book";
+pub const BOOK_TEXT: &str = "--book-text";
 
 /// How long a run takes where neither a time nor a number of calls is given.
 const DEFAULT_SECONDS: u64 = 20;
@@ -24,14 +29,18 @@ pub struct Arguments {
     pub plant: Option<String>,
     /// The Rattle program that answers lists of calls.
     pub program: Option<String>,
+    /// The Rattle program that runs draw books.
+    pub book: Option<String>,
+    /// The Rattle program that writes them from texts and shows them.
+    pub book_text: Option<String>,
 }
 
 /// The names of the faults that can be planted.
 pub struct Faults {
     /// Those in the answers at the C boundary.
     pub boundary: Vec<&'static str>,
-    /// Those in the answers of the Rattle program.
-    pub program: Vec<&'static str>,
+    /// Those in the answers of the Rattle programs, with the option that names each.
+    pub programs: Vec<(&'static str, Vec<&'static str>)>,
 }
 
 impl Arguments {
@@ -43,6 +52,8 @@ impl Arguments {
             calls: None,
             plant: None,
             program: None,
+            book: None,
+            book_text: None,
         };
         let mut words = words;
         while let Some(word) = words.next() {
@@ -52,7 +63,9 @@ impl Arguments {
                 "--seconds" => arguments.seconds = Some(number(&value)?),
                 "--calls" => arguments.calls = Some(number(&value)?),
                 "--plant" => arguments.plant = Some(value),
-                "--program" => arguments.program = Some(value),
+                PROGRAM => arguments.program = Some(value),
+                BOOK => arguments.book = Some(value),
+                BOOK_TEXT => arguments.book_text = Some(value),
                 _ => return Err(format!("{word} is no option")),
             }
         }
@@ -63,17 +76,31 @@ impl Arguments {
     /// A fault must be one of `faults`, and what it is planted in must be run, or a run would pass for want of a fault to
     /// find.
     fn check_plant(&self, faults: &Faults) -> Result<(), String> {
-        match self.plant.as_deref() {
-            None => Ok(()),
-            Some(name) if faults.boundary.contains(&name) => Ok(()),
-            Some(name) if !faults.program.contains(&name) => {
-                Err(format!("no fault is called {name}"))
-            }
-            Some(name) if self.program.is_none() => Err(format!(
-                "fault {name} is one of the program's: --program is wanted"
-            )),
-            Some(_) => Ok(()),
+        let Some(name) = self.plant.as_deref() else {
+            return Ok(());
+        };
+        let programs = faults.programs.iter();
+        let mut options = programs.filter(|(_, names)| names.contains(&name));
+        let is_boundary = faults.boundary.contains(&name);
+        if is_boundary || options.clone().any(|(option, _)| self.is_given(option)) {
+            return Ok(());
         }
+        Err(match options.next() {
+            Some((option, _)) => {
+                format!("fault {name} is one of a program's: {option} is wanted")
+            }
+            None => format!("no fault is called {name}"),
+        })
+    }
+
+    /// Whether the program of this option is named.
+    fn is_given(&self, option: &str) -> bool {
+        let program = match option {
+            PROGRAM => &self.program,
+            BOOK => &self.book,
+            _ => &self.book_text,
+        };
+        program.is_some()
     }
 
     /// Whether a part of the program with these faults is to be run: where one is planted, only what has it.
@@ -109,11 +136,16 @@ mod tests {
 
     const BOUNDARY: &str = "at-the-boundary";
     const PROGRAM: &str = "in-the-program";
+    const BOOK: &str = "in-a-book";
 
     fn parse(line: &str) -> Result<Arguments, String> {
         let faults = Faults {
             boundary: vec![BOUNDARY],
-            program: vec![PROGRAM],
+            programs: vec![
+                (super::PROGRAM, vec![PROGRAM]),
+                (super::BOOK, vec![BOOK]),
+                (super::BOOK_TEXT, vec![BOOK, PROGRAM]),
+            ],
         };
         Arguments::parse(line.split_whitespace().map(str::to_owned), &faults)
     }
@@ -121,13 +153,15 @@ mod tests {
     #[test]
     fn every_option_is_read() {
         for seed in [1, 2, 3, u64::MAX] {
-            let line = format!("--seed {seed} --seconds 9 --calls 7 --plant {BOUNDARY}");
+            let line = format!("--seed {seed} --seconds 9 --calls 7 --plant {BOUNDARY} --book b");
             let arguments = Arguments {
                 seed,
                 seconds: Some(9),
                 calls: Some(7),
                 plant: Some(BOUNDARY.to_owned()),
                 program: None,
+                book: Some("b".to_owned()),
+                book_text: None,
             };
             assert_eq!(parse(&line), Ok(arguments));
         }
@@ -137,8 +171,20 @@ mod tests {
     /// A run that cannot find the fault must not pass for one that did not.
     #[test]
     fn a_fault_that_cannot_be_found_is_an_error() {
-        for line in ["--plant", "--plant no-such", "--plant in-the-program"] {
+        for line in [
+            "--plant",
+            "--plant no-such",
+            "--plant in-the-program",
+            "--plant in-the-program --book path",
+            "--plant in-a-book --program path",
+        ] {
             assert!(parse(line).is_err(), "{line}");
+        }
+        for line in [
+            "--plant in-a-book --book path",
+            "--plant in-a-book --book-text path",
+        ] {
+            assert!(parse(line).is_ok(), "{line}");
         }
         let line = format!("--plant {PROGRAM} --program path");
         let planted = parse(&line).expect("the program is named");

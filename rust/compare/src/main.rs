@@ -1,9 +1,11 @@
 //! Runs Gapyndura and rand on the same inputs and says whether they ever differ.
 //!
 //! Each kind of call at the C boundary is a file with a type that is a [`kind::Kind`], and a line in [`KINDS`]. Calls that
-//! have no function there are made by the Rattle program of module [`program`].
+//! have no function there are made by the Rattle program of module [`program`], and draw books by those of module [`book`].
 
 mod arguments;
+mod book;
+mod child;
 mod choose;
 mod fill;
 mod inputs;
@@ -24,7 +26,8 @@ mod word;
 use std::env;
 use std::process::ExitCode;
 
-use arguments::{Arguments, Faults, USAGE};
+use arguments::{Arguments, BOOK, BOOK_TEXT, Faults, PROGRAM, USAGE};
+use book::Programs;
 use kind::{Entry, Tally};
 use program::Program;
 
@@ -72,8 +75,10 @@ fn run(arguments: &Arguments) -> Result<Tally, String> {
         Program::new(path, arguments.plant.as_deref()).map_err(|error| format!("{path}: {error}"))
     });
     let program = program.transpose()?;
+    let books = Programs::new(arguments)?;
     let lines = program.as_ref().map_or(0, |_| program::PARTS);
-    let all = KINDS.iter().map(|entry| entry.parts).sum::<usize>() + lines;
+    let boundary = KINDS.iter().map(|entry| entry.parts).sum::<usize>();
+    let all = boundary + lines + books.parts();
     let mut sum = Tally::default();
     for entry in KINDS.iter().filter(|entry| arguments.wants(entry.faults)) {
         sum += (entry.run)(arguments, &arguments.bound(entry.parts, all));
@@ -83,8 +88,9 @@ fn run(arguments: &Arguments) -> Result<Tally, String> {
             sum += program::run(&program, arguments, &arguments.bound(lines, all));
         }
         Some(_) => {}
-        None => println!("outputs and draws: not compared, for want of --program PATH"),
+        None => println!("outputs and draws: not compared, for want of {PROGRAM} PATH"),
     }
+    sum += book::run(&books, arguments, &arguments.bound(books.parts(), all));
     Ok(sum)
 }
 
@@ -93,7 +99,11 @@ fn faults() -> Faults {
     let boundary = KINDS.iter().flat_map(|entry| entry.faults).copied();
     Faults {
         boundary: each_once(boundary),
-        program: each_once(program::faults()),
+        programs: vec![
+            (PROGRAM, each_once(program::faults())),
+            (BOOK, each_once(book::of_book())),
+            (BOOK_TEXT, each_once(book::of_text())),
+        ],
     }
 }
 
@@ -109,10 +119,15 @@ fn each_once(names: impl IntoIterator<Item = &'static str>) -> Vec<&'static str>
 
 fn usage(faults: &Faults) -> String {
     let boundary = faults.boundary.join(", ");
-    let program = faults.program.iter().copied();
-    let program = program.filter(|name| !faults.boundary.contains(name));
-    let program = program.collect::<Vec<_>>().join(", ");
-    format!("{USAGE}\nfaults to plant: {boundary}; with --program: {program}")
+    let mut text = format!("{USAGE}\nfaults to plant: {boundary}");
+    for (option, names) in &faults.programs {
+        let names = names.iter().copied();
+        let names: Vec<&str> = names
+            .filter(|name| !faults.boundary.contains(name))
+            .collect();
+        text += &format!("; with {option}: {}", names.join(", "));
+    }
+    text
 }
 
 #[cfg(test)]

@@ -62,9 +62,73 @@ fn a_program_that_differs_is_told_with_the_smallest_lines() {
     assert!(text.ends_with("85 calls, 85 differ\n"), "{text}");
 }
 
+/// rand's own programs of draw books stand in for the port's.
+const BOOKS: [&str; 4] = [
+    "--book",
+    env!("CARGO_BIN_EXE_rand_book"),
+    "--book-text",
+    env!("CARGO_BIN_EXE_rand_book_text"),
+];
+
+/// All runs before the one that has the fault must be those that are due: one alone differs.
+#[test]
+fn a_fault_of_draw_books_is_told_with_the_smallest_input() {
+    for (fault, smallest) in [
+        ("tail-taken", "Run 0000000000\n"),
+        ("budget-shared", " 2 1 1\\n\"\n"),
+        (
+            "file-order",
+            "Run 02000000010000000000000000000000000000000000000000000000\n",
+        ),
+        ("shown-state", " 0 0 0\\n\"\n"),
+        ("seed-as-bytes", "Write \"sample 0 0 0 0\"\n"),
+        ("skipped-uncounted", "Write \"\\n?\"\n"),
+    ] {
+        let planted = ["--plant", fault, "--calls", "3"];
+        let output = compare(&[&BOOKS[..], &planted].concat());
+        let text = String::from_utf8_lossy(&output.stdout);
+        assert_eq!(output.status.code(), Some(1), "{fault}: {text}");
+        assert!(text.contains(smallest), "{fault}: {text}");
+        assert!(text.ends_with(" differ\n"), "{text}");
+    }
+}
+
+/// A program that says nothing, and one that gives its input back.
+#[test]
+fn programs_of_draw_books_that_differ_are_told() {
+    for program in ["true", "cat"] {
+        let words = [
+            "--plant",
+            "larger-taken",
+            "--book",
+            program,
+            "--book-text",
+            program,
+        ];
+        let output = compare(&[&words[..], &["--calls", "1"]].concat());
+        let text = String::from_utf8_lossy(&output.stdout);
+        assert_eq!(output.status.code(), Some(1), "{text}");
+        assert!(
+            text.contains("Run \"\"\n  rand: \"refused 14\\n\""),
+            "{text}"
+        );
+        assert!(
+            text.contains("Show \"\"\n  rand: \"\", Wrong(Refused(14))"),
+            "{text}"
+        );
+    }
+}
+
 #[test]
 fn a_fault_that_cannot_be_planted_ends_with_status_2() {
-    for fault in ["no-such-fault", "second-word", "answer-digest", "word-more"] {
+    for fault in [
+        "no-such-fault",
+        "second-word",
+        "answer-digest",
+        "word-more",
+        "file-order",
+        "shown-upper",
+    ] {
         let output = compare(&["--plant", fault]);
         let text = String::from_utf8_lossy(&output.stderr);
         assert_eq!(output.status.code(), Some(2), "{fault}: {text}");

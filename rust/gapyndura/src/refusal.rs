@@ -3,7 +3,8 @@
 use core::error::Error;
 use core::fmt;
 
-/// Why a call is declined: the table of document 01, by number. [`Display`](fmt::Display) says it in words.
+/// Why a call is declined: the table of document 01, by number, and what document 02 adds to it. [`Display`](fmt::Display) says it in
+/// words. The last three are those of a draw book, which no call of this package reads: none answers them.
 ///
 /// A call that has no budget answers a refusal alone: it has then read no word and changed nothing. The error of one that has a
 /// budget also says how many words were read, and becomes a refusal where that is all that is wanted:
@@ -56,10 +57,16 @@ pub enum Refusal {
     ZeroState,
     /// A word is needed, and as many as the budget allows have been read (spent).
     BudgetExhausted,
+    /// A draw book's count is missing or above 64, or its contents are cut short.
+    ContentsCutShort,
+    /// A job of a draw book is of a kind that is not known.
+    UnknownKind,
+    /// The bodies of a draw book do not lie as its contents and their kinds say, or it is too long.
+    LayoutMismatch,
 }
 
 /// All causes, by their numbers from 1 on.
-const ALL: [Refusal; 13] = [
+const ALL: [Refusal; 16] = [
     Refusal::AmountExceedsLength,
     Refusal::NoWeights,
     Refusal::Overflow,
@@ -73,10 +80,13 @@ const ALL: [Refusal; 13] = [
     Refusal::InvalidHints,
     Refusal::ZeroState,
     Refusal::BudgetExhausted,
+    Refusal::ContentsCutShort,
+    Refusal::UnknownKind,
+    Refusal::LayoutMismatch,
 ];
 
 impl Refusal {
-    /// The cause's number, as the functions of `include/gapyndura.h` answer it: 1 to 13.
+    /// The cause's number, as `include/gapyndura.h` has it: 1 to 16.
     #[must_use]
     pub const fn number(self) -> u32 {
         self as u32
@@ -112,6 +122,9 @@ impl fmt::Display for Refusal {
             Self::InvalidHints => "the bounds on what remains do not hold of the items",
             Self::ZeroState => "all four words of the generator's state are 0",
             Self::BudgetExhausted => "the budget of words is used up",
+            Self::ContentsCutShort => "the book's contents are cut short or of more than 64 jobs",
+            Self::UnknownKind => "a job of the book is of an unknown kind",
+            Self::LayoutMismatch => "the book's bodies do not lie as they must, or it is too long",
         })
     }
 }
@@ -126,12 +139,13 @@ mod tests {
     use std::string::ToString;
 
     #[test]
-    fn numbers_run_from_1_to_13() {
+    fn numbers_run_from_1_to_16() {
         for (number, refusal) in (1..).zip(ALL) {
             assert_eq!(refusal.number(), number);
             assert_eq!(Refusal::from_number(number), refusal);
         }
         assert_eq!(Refusal::BudgetExhausted.number(), 13);
+        assert_eq!(Refusal::LayoutMismatch.number(), 16);
     }
 
     /// A word of each cause, by its number: texts that are exchanged, here and in the C header alike, lack it.
@@ -151,6 +165,9 @@ mod tests {
             "what remains",
             "state are 0",
             "budget",
+            "contents",
+            "unknown kind",
+            "bodies",
         ];
         assert_eq!(words.len(), ALL.len());
         for (refusal, word) in ALL.into_iter().zip(words) {

@@ -5,7 +5,7 @@ mod faults;
 mod process;
 mod random;
 mod smaller;
-mod spoilt;
+pub mod spoilt;
 
 use std::time::Instant;
 

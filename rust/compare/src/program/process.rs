@@ -1,13 +1,13 @@
 //! The Rattle program as a process: a class of slices and a list on its standard input, its answers on its standard output.
 
-use std::io::{self, Write};
-use std::process::{Command, Stdio};
-use std::thread;
+use std::io;
+use std::process::Command;
 
 use reference::State;
 use reference::line::{CLASS, LARGEST_LIST, call, written};
 
 use super::faults;
+use crate::child;
 
 /// The program, and the fault that is put into its answers.
 pub struct Program {
@@ -142,20 +142,8 @@ impl Program {
 
     /// The lines that the program writes. Text behind the last of them counts as one more, and so does an end that is no success.
     fn run(&self, lines: &[Asked]) -> io::Result<Vec<String>> {
-        let list = list(lines);
-        let mut child = Command::new(&self.path)
-            .stdin(Stdio::piped())
-            .stdout(Stdio::piped())
-            .spawn()?;
-        let stdin = child.stdin.take();
-        // Written from a thread of its own, for the program need not read to the end before it answers.
-        let output = thread::scope(|scope| {
-            scope.spawn(move || {
-                // A program that does not read its list to the end is short of answers; that is seen below.
-                let _ = stdin.map(|mut pipe| pipe.write_all(list.as_bytes()));
-            });
-            child.wait_with_output()
-        })?;
+        let mut command = Command::new(&self.path);
+        let output = child::output(&mut command, &[list(lines).as_bytes()])?;
         let text = String::from_utf8_lossy(&output.stdout);
         // Not `lines`: a carriage return is part of an answer, which it makes another.
         let mut answers: Vec<String> = text.split('\n').map(str::to_owned).collect();

@@ -52,18 +52,24 @@ pub fn text(source: &mut Source) -> String {
     if source.below(512) == 0 {
         words = many_numbers(source, words);
     }
-    for _ in 0..=source.below(8) / 7 {
-        words = source.one_of(&CHANGES)(source, words);
-    }
-    let mut text = words.join(" ");
-    if source.below(8) == 0 {
-        text = bytes(source, &text);
-    }
+    let text = changed(source, words);
     let is_endless = Line::parse(&text).is_some_and(|line| random::is_endless(&line));
     if is_endless || is_skipped(&text) || text.contains('\n') {
         return self::text(source);
     }
     text
+}
+
+/// The line of these words, with one or two changes.
+pub fn changed(source: &mut Source, mut words: Vec<String>) -> String {
+    for _ in 0..=source.below(8) / 7 {
+        words = source.one_of(&CHANGES)(source, words);
+    }
+    let text = words.join(" ");
+    match source.below(8) {
+        0 => bytes(source, &text),
+        _ => text,
+    }
 }
 
 /// A lookup with as many numbers as there is room for, or with one more or one less.

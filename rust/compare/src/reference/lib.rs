@@ -3,6 +3,10 @@
 //! With it, rand's answers to the lines of a list: what program `compare` holds a run to and program `list` writes.
 
 pub mod answer;
+pub mod book;
+pub mod book_by_rand;
+pub mod book_jobs;
+pub mod book_text;
 pub mod call;
 pub mod choose_line;
 pub mod choosing;

@@ -11,9 +11,9 @@ use crate::{State, from_state, state};
 
 /// The numbers of document 01's table for the other refusals. Its word for each: "overdrawn", "short tray", "short bench",
 /// "too long", "dead generator".
-const AMOUNT_EXCEEDS_LENGTH: u64 = 1;
-pub(crate) const SLICE_TOO_SHORT: u64 = 8;
-const SCRATCH_TOO_SHORT: u64 = 9;
+pub(crate) const AMOUNT_EXCEEDS_LENGTH: u64 = 1;
+pub const SLICE_TOO_SHORT: u64 = 8;
+pub(crate) const SCRATCH_TOO_SHORT: u64 = 9;
 pub(crate) const TOO_LONG: u64 = 10;
 pub const ZERO_STATE: u64 = 12;
 

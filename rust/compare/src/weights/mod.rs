@@ -25,7 +25,7 @@ pub use lookup::Lookup;
 pub use new::New;
 pub use pick::Pick;
 pub use reference::weighing::{Calls, RAND};
-pub use smaller::lists;
+pub use smaller::{lists, shorter};
 pub use tables::Table;
 
 /// The port's calls.
