@@ -42,7 +42,7 @@ pub record RoundTrip : Type 0 where
   pub again : (b : List ℕ) (j : Jobs) → Below 256 b → ReadsAs b j → WritesAs j b
   -- the jobs that the reader gives are such as slices hold
   pub held : (b : List ℕ) (j : Jobs) → Below 256 b → ReadsAs b j → InSlices j
-  -- what the call `write` leaves at the front of the output, as long as it answers, is read so
+  -- what the call `write` leaves at the front of the output, as many bytes as it answers, is read so
   pub written : (j : Jobs) (out : List ℕ) → InSlices j → writeOf j out .answer .number ≡ 0
       → ReadsAs (take (getD (writeOf j out .answer .values) 0 0) (writeOf j out .out)) j
   -- what the call `read` leaves at the front of its arrays are those jobs, and none is lost
