@@ -8,7 +8,7 @@ use Prim.Native.Nat.{ℕ, _+_, _-_, _*_, _≤_, _<_}
 use native.Mathlib.Omega.{arith}
 use lib.Dec.{leb, eqb}
 use lib.ListN.{length, take, drop, getD}
-use lib.Seq.{drop-drop, take-add}
+use lib.Seq.{drop-drop, take-add, length-take-le}
 use borrow.Author.Tests.{eq-eqb, ne-eqb, le-leb, leb-true, leb-false}
 use Rattle.command_line.specs.Block.{Holds, Appends}
 use Rattle.book_lines.proofs.Texts.{rest-both, ends-behind}
@@ -68,14 +68,19 @@ module _ (ks cs ss ns : List ℕ) (from : ℕ) (entry : List ℕ) where
     pub full : length out ≡ length entry
     pub holds : Holds out used (linesFrom answers from next)
     pub rest : drop used out ≡ drop used entry
+    pub room : from < next → length (linesFrom answers from (next - 1)) + longestLine ≤ length entry
 
   pub begin : (m : ℕ) → At ks cs ss ns from m → Running entry 0 from m
-  begin m p = record { place = p; behind = omega arith; full = refl; holds = record { within = omega arith; front = sym (no-lines answers from) }; rest = refl }
+  begin m p = record { place = p; behind = omega arith; full = refl; holds = record { within = omega arith; front = sym (no-lines answers from) }; rest = refl; room = λ h. absurd (omega arith) }
 
-  pub turn : (out now : List ℕ) (used next m r : ℕ) (seed numbers : List ℕ) → next < length ks → length now ≡ length out
+  -- the lines that stand in the output are as long as the bytes used
+  held-size : (out : List ℕ) (used next : ℕ) → Holds out used (linesFrom answers from next) → length (linesFrom answers from next) ≡ used
+  held-size out used next h = ap length (sym (h .front)) ∙ length-take-le used out (h .within)
+
+  pub turn : (out now : List ℕ) (used next m r : ℕ) (seed numbers : List ℕ) → next < length ks → used + longestLine ≤ length out → length now ≡ length out
       → seed ≡ take 32 (drop (32 * next) ss) → numbers ≡ take (getD cs next 0) (drop m ns)
       → Appends out now used r (answerLine (jobAnswer (getD ks next 0) seed numbers)) → Running out used next m → Running now r (next + 1) (m + getD cs next 0)
-  turn out now used next m r seed numbers more same is-seed are-numbers put run =
+  turn out now used next m r seed numbers more wide same is-seed are-numbers put run =
       let j = job ks cs ss ns next m more (run .place) in
       let a = jobAnswer (getD ks next 0) (take 32 (drop (32 * next) ss)) (take (getD cs next 0) (drop m ns)) in
       let line : take r now ≡ take used out ++ answerLine a = rw (is-seed, are-numbers) at (put .holds .front) in
@@ -89,6 +94,7 @@ module _ (ks cs ss ns : List ℕ) (from : ℕ) (entry : List ℕ) where
               front = line ∙ ap (λ (l : List ℕ). l ++ answerLine a) (run .holds .front) ∙ sym (next-line answers (drop (next + 1) answers) from next a (run .behind) (j .answer));
             };
         rest = rest-both entry out now used r (ends-behind out now (answerLine (jobAnswer (getD ks next 0) seed numbers)) used r (run .holds .within) put) (run .rest) (put .rest);
+        room = λ _. let e : next + 1 - 1 ≡ next = omega arith in let size = held-size out used next (run .holds) in rw e (omega (arith, run .full));
       }
 
   module _ (out : List ℕ) (used next m : ℕ) (fits : listsMatch ks cs (length ss) (length ns) ≡ true) (inside : from ≤ length ks) (run : Running out used next m) where
@@ -104,6 +110,7 @@ module _ (ks cs ss ns : List ℕ) (from : ℕ) (entry : List ℕ) where
           holds = run .holds;
           rest = run .rest;
           full = λ h. full h stop;
+          room = λ h. let q = run .room h in omega (arith, run .full);
           is-whole = reached next (length ks) (run .place .within) ∙ ap (λ (n : ℕ). leb n next) (sym count);
         }
       where
@@ -128,6 +135,7 @@ nothing-left answers from out h =
       holds = record { within = omega arith; front = sym (no-lines answers from) };
       rest = refl;
       full = λ l. absurd (omega arith);
+      room = λ l. absurd (omega arith);
       is-whole = sym (le-leb (length answers) from h);
     }
 
@@ -143,11 +151,12 @@ module _ (a : Answer) (out : List ℕ) where
         holds = record { within = omega arith; front = rw e (sym (no-lines (a ∷ []) 0)) };
         rest = refl;
         full = λ l. omega arith;
+        room = λ l. absurd (omega arith);
         is-whole = refl;
       }
 
-  pub told : (entry : List ℕ) (from r : ℕ) → from ≡ 0 → Appends entry out 0 r (answerLine a) → RanFrom (a ∷ []) from entry out (record { used = r; next = 1; «is_whole» = true })
-  told entry from r e put =
+  pub told : (entry : List ℕ) (from r : ℕ) → from ≡ 0 → longestLine ≤ length entry → length out ≡ length entry → Appends entry out 0 r (answerLine a) → RanFrom (a ∷ []) from entry out (record { used = r; next = 1; «is_whole» = true })
+  told entry from r e wide same put =
       record {
         behind = omega arith;
         inside = λ l. omega arith;
@@ -155,5 +164,6 @@ module _ (a : Answer) (out : List ℕ) where
         holds = record { within = put .holds .within; front = put .holds .front ∙ rw e (sym (next-line (a ∷ []) [] 0 0 a (omega arith) refl ∙ ap (λ (l : List ℕ). l ++ answerLine a) (no-lines (a ∷ []) 0))) };
         rest = put .rest;
         full = λ l. absurd (omega arith);
+        room = λ _. let none : length (linesFrom (a ∷ []) 0 0) ≡ 0 = ap length (no-lines (a ∷ []) 0) in rw e (omega arith);
         is-whole = refl;
       }

@@ -14,7 +14,7 @@ unfoldable pub linesFrom : (answers : List Answer) (from next : ℕ) → List �
 linesFrom answers from next = answerLines (take (next - from) (drop from answers))
 
 -- A call from a place on. The first bytes of the output are the lines up to the next place, and those behind them are as they were. It stops where no
--- answer is left, or where the output has no room for any line; behind the last answer it stays where it is.
+-- answer is left, or where the output has no room for any line, and not later; behind the last answer it stays where it is.
 pub record RanFrom (answers : List Answer) (from : ℕ) (entry out : List ℕ) (r : Ran) : Type 0 where
   pub behind : from ≤ r .next
   pub inside : from < length answers → r .next ≤ length answers
@@ -22,4 +22,5 @@ pub record RanFrom (answers : List Answer) (from : ℕ) (entry out : List ℕ) (
   pub holds : Holds out (r .used) (linesFrom answers from (r .next))
   pub rest : drop (r .used) out ≡ drop (r .used) entry
   pub full : r .next < length answers → length out < r .used + longestLine
+  pub room : from < r .next → length (linesFrom answers from (r .next - 1)) + longestLine ≤ length out
   pub is-whole : r .«is_whole» ≡ leb (length answers) (r .next)

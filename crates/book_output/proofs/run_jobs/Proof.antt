@@ -112,7 +112,7 @@ loop-again c =
     let l = seeded s in
     let numbers = now (begun l .args .numbers) in
     let count = getD (now (begun l .args .counts)) (l .loop .next) 0 in
-    turn _ _ _ numbers _ _ (l .loop .out) _ (l .loop .used) (l .loop .next) (l .loop .at) _ (s .seed-at .result) (take (l .loop .at + count - l .loop .at) (drop (l .loop .at) numbers)) (omega arith) (search needs) (s .seed-at .ensures) (part-is numbers (l .loop .at) count) (a .append-job .ensures) (l .loop .inv)
+    turn _ _ _ numbers _ _ (l .loop .out) _ (l .loop .used) (l .loop .next) (l .loop .at) _ (s .seed-at .result) (take (l .loop .at + count - l .loop .at) (drop (l .loop .at) numbers)) (omega arith) (omega (arith, l .loop .inv .holds .within)) (search needs) (s .seed-at .ensures) (part-is numbers (l .loop .at) count) (a .append-job .ensures) (l .loop .inv)
 
 same-length : tie.Need-same-length Inv-loop μ-loop
 same-length c = c .before .loop .inv .full

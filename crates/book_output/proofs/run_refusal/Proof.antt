@@ -27,7 +27,7 @@ returns-3 c =
     let l = c .before .before in
     let i = l .before .before .before in
     let s = i .before .before .before .args in
-    told (record { number = s .number; values = [] }) _ (now (s .out)) _ _ (omega (arith, i .before .if1 .left)) (l .append-line .ensures)
+    told (record { number = s .number; values = [] }) _ (now (s .out)) _ _ (omega (arith, i .before .if1 .left)) (i .if2 .left) (search needs) (l .append-line .ensures)
 
 pub run-refusal-spec : {M : Type 1} → statement M
 run-refusal-spec =
