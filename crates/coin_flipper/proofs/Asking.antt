@@ -10,7 +10,7 @@ use native.Mathlib.Omega.{arith}
 use lib.Pow.{pow-pos}
 use lib.ListN.{length}
 use lib.Dec.{leb, ltb}
-use borrow.Author.Tests.{lt-ltb, le-ltb, le-leb}
+use borrow.Author.Tests.{lt-ltb, le-leb}
 use Rattle.counting.specs.Count.{oneIf}
 use Rattle.refusal.specs.Answer.{done}
 use Rattle.xoshiro256plusplus.specs.Generator.{word}
@@ -47,12 +47,6 @@ same-row : (q : ℕ → List Bool → Row) (w n m : ℕ) (cs : List Bool) (s : C
 unfolding asking
 same-row q zero n m cs s e = rw e (same-answer (q m cs) cs s (λ k. exhausted s))
 same-row q (suc w) n m cs s e = rw e (same-answer (q m cs) cs s (λ k. asking q w k (refilled s)))
-
--- once n is d or more the answer is yes
-pub reached : (d n : ℕ) (cs : List Bool) → d ≤ n → ratio d n cs ≡ settled true cs
-unfolding ratio
-reached d n [] h = rw (le-ltb n d h)
-reached d n (c ∷ cs) h = rw (le-ltb n d h)
 
 -- ---- what heads in a row, asked first, leave of n over d
 

@@ -1,4 +1,9 @@
 pub mod Chunk
+pub mod RowCounts
+pub mod RatioRow
+pub mod OneOverShares
+pub mod WordRows
+pub mod OnWords
 pub mod Asking
 pub mod Heads
 pub mod Ratio

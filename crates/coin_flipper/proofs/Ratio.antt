@@ -18,7 +18,8 @@ use Rattle.coin_flipper.specs.declared.Flip.{Flip}
 use Rattle.coin_flipper.specs.declared.Flip.the-variants.{Yes, No, Spent}
 use Rattle.coin_flipper.specs.declared.Flipped.{Flipped}
 use Rattle.coin_flipper.proofs.Chunk.{length-coinsOf, lt-or-le}
-use Rattle.coin_flipper.proofs.Asking.{onward, singly, together, single, spends, settles, reached}
+use Rattle.coin_flipper.proofs.RatioRow.{reached}
+use Rattle.coin_flipper.proofs.Asking.{onward, singly, together, single, spends, settles}
 
 -- all the coins that can still be flipped
 abbrev pub supply : (budget : ℕ) → CoinFlipper → ℕ

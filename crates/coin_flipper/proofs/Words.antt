@@ -1,15 +1,19 @@
 -- The words that a question reads: the coins after it are those of the generator after so many words, and no answer means that the
 -- budget is used up.
 -- Assumes nothing.
-use mathlib.Core.Path.{_≡_, refl, ap}
-use mathlib.Core.Bool.{Bool}
-use mathlib.Core.List.{List, []}
-use Prim.Native.Nat.{ℕ, zero, suc, _+_, _-_, _≤_}
+use mathlib.Core.Path.{_≡_, refl, sym, ap, _∙_}
+use mathlib.Core.Bool.{true}
+use mathlib.Core.List.{[]}
+use Prim.Native.Nat.{ℕ, _≤_}
 use native.Mathlib.Omega.{arith}
-use Rattle.xoshiro256plusplus.specs.Generator.{advance, steps}
+use Rattle.refusal.specs.Answer.{Answer}
+use Rattle.xoshiro256plusplus.specs.Generator.{steps}
 use Rattle.xoshiro256plusplus.specs.declared.Xoshiro256PlusPlus.{Xoshiro256PlusPlus}
+use Rattle.xoshiro256plusplus.proofs.Laws.{steps-add}
 use Rattle.coin_flipper.specs.Coins.{Row, settled, unsettled, ratio}
-use Rattle.coin_flipper.specs.Within.{Coins, Flipping, start, refilled, answered, asking, oneOverWithin}
+use Rattle.coin_flipper.specs.Within.{Coins, Flipping, start, oneOverWithin}
+use Rattle.coin_flipper.specs.Rows.{leavesOpen, answerOfRow, coinsWith}
+use Rattle.coin_flipper.proofs.OnWords.{asked}
 
 -- the generator has read the coins' words, within the budget
 pub record Read (g : Xoshiro256PlusPlus) (budget : ℕ) (s : Coins) : Type 0 where
@@ -26,21 +30,19 @@ module _ (g : Xoshiro256PlusPlus) (budget : ℕ) where
   unfolding start steps
   read-start = record { rng = refl; few = omega arith }
 
-  read-refilled : (s : Coins) → Read g budget s → suc (s .words) ≤ budget → Read g budget (refilled s)
-  unfolding steps
-  read-refilled s r h = record { rng = ap advance (r .rng); few = h }
-
-  answered-read : (row : Row) (s : Coins) (more : ℕ → Flipping) → Read g budget s → ((n : ℕ) → Asked g budget (more n)) → Asked g budget (answered row s more)
-  answered-read (settled b cs) s more r h =
-      record { read = record { rng = r .rng; few = r .few }; spent = λ e. let z : _≡_ {A = ℕ} 0 1 = cc in absurd (omega arith) }
-  answered-read (unsettled n) s more r h = h n
-
-  asking-read : (q : ℕ → List Bool → Row) (w n : ℕ) (s : Coins) → Read g budget s → w + s .words ≡ budget → Asked g budget (asking q w n s)
-  unfolding asking
-  asking-read q zero n s r e =
-      answered-read (q n (s .left)) s _ r (λ m. record { read = record { rng = r .rng; few = r .few }; spent = λ x. omega arith })
-  asking-read q (suc w) n s r e = answered-read (q n (s .left)) s _ r (λ m. asking-read q w m (refilled s) (read-refilled s r (omega arith)) (omega arith))
+  -- no value is answered only if the row is left open
+  no-value : (row : Row) (a : Answer) → a ≡ answerOfRow row → a .values ≡ [] → leavesOpen row ≡ true
+  no-value (settled b cs) a e v = let z : _≡_ {A = ℕ} 0 1 = cc in absurd (omega arith)
+  no-value (unsettled n) a e v = refl
 
   pub one-over-read : (d : ℕ) (s : Coins) → Read g budget s → Asked g budget (oneOverWithin d budget s)
-  unfolding oneOverWithin
-  one-over-read d s r = asking-read (ratio d) (budget - s .words) 1 s r (omega (arith, r .few))
+  one-over-read d s r =
+      let a = asked d budget s in
+      record {
+        read =
+            record {
+              rng = a .rng ∙ ap (steps (a .count)) (r .rng) ∙ steps-add (s .words) (a .count) g ∙ ap (λ (k : ℕ). steps k g) (sym (a .words));
+              few = omega (arith, a .words, a .few, r .few);
+            };
+        spent = λ v. omega (arith, a .words, r .few, a .spent (no-value (ratio d 1 (coinsWith (a .count) s)) (oneOverWithin d budget s .answer) (a .answer) v));
+      }

@@ -150,7 +150,8 @@ impl CoinFlipper {
     }
 
     // Yes with the chance of one over d: the definition `oneOverWithin`, which flips coin by coin. The coins up to the highest power of two
-    // within d are flipped at once. d = 1 uses no coin. Cost: two coins on average.
+    // within d are flipped at once. d = 1 uses no coin. Of the 2^m rows of m coins exactly floor(2^m / d) say yes (`CoinShares`). Cost: two coins
+    // on average.
     pub fn random_ratio_one_over(self, d: u32, budget: u64) -> Flipped
         requires { ⌜ (Held budget self) × (0 < d) ⌝ }
         ensures { λ r. ⌜ (told r ≡ oneOverWithin d budget (seen self)) × (Held budget (r .flipper)) ⌝ }

@@ -13,7 +13,7 @@ use lib.Seq.{getD-set-same, getD-set-other}
 use borrow.Author.Tests.{eq-eqb, eqb-true, eqb-false, ltb-true, ltb-false}
 use Rattle.counting.specs.Count.{oneIf, sum, count}
 use Rattle.counting.specs.Lists.{member, howMany, swapAt, Distinct, Below}
-use Rattle.counting.proofs.Tests.{is-false, or-false}
+use Rattle.counting.proofs.Tests.{is-false, or-false, oneIf-most}
 use Rattle.counting.proofs.Sums.{sum-cong, sum-split}
 
 pub many-append : (a : ℕ) (xs ys : List ℕ) → howMany a (xs ++ ys) ≡ howMany a xs + howMany a ys
@@ -99,3 +99,8 @@ many-below n (x ∷ l) h = (here (ltb x n) refl, many-below n l (λ a g. omega (
     here : (b : Bool) → ltb x n ≡ b → x < n
     here true e = ltb-true x n e
     here false e = absurd (omega (arith, h x (ltb-false x n e), ap oneIf (eq-eqb x x refl)))
+
+-- no more often than there are entries
+pub many-length : (a : ℕ) (l : List ℕ) → howMany a l ≤ length l
+many-length a [] = omega arith
+many-length a (x ∷ xs) = omega (arith, oneIf-most (eqb a x), many-length a xs)

@@ -2,8 +2,9 @@
 -- Assumes nothing.
 use mathlib.Core.Path.{_≡_, refl, sym}
 use mathlib.Core.Bool.{Bool, true, false, _&&_, _||_, false≢true}
-use Prim.Native.Nat.{ℕ, _*_}
+use Prim.Native.Nat.{ℕ, _*_, _≤_}
 use native.Mathlib.Nat.{zero-mul, one-mul}
+use native.Mathlib.Omega.{arith}
 use lib.Dec.{eqb}
 use borrow.Author.Tests.{eq-eqb, eqb-true}
 use Rattle.counting.specs.Count.{oneIf}
@@ -34,3 +35,7 @@ eqb-sym a b = iff-bool (eqb a b) (eqb b a) (λ t. eq-eqb b a (sym (eqb-true a b 
 pub oneIf-and : (a b : Bool) → oneIf (a && b) ≡ oneIf a * oneIf b
 oneIf-and true b = sym (one-mul (oneIf b))
 oneIf-and false b = sym (zero-mul (oneIf b))
+
+pub oneIf-most : (a : Bool) → oneIf a ≤ 1
+oneIf-most true = omega arith
+oneIf-most false = omega arith

@@ -2,7 +2,7 @@
 -- Assumes nothing.
 use mathlib.Core.Path.{refl}
 use Rattle.xoshiro256plusplus.specs.Word64.{add64, shl64, rotl64}
-use Rattle.xoshiro256plusplus.specs.Generator.{output, advance, word}
+use Rattle.xoshiro256plusplus.specs.Generator.{output, advance, word, nextWords}
 use Rattle.uniform_int.specs.Bounded.{boundedValue, readsTwo, bounded}
 use Rattle.uniform_int.specs.Rejecting.{accepts, scaled, rejectingAt, rejecting}
 use Rattle.index_methods.specs.Floyd.{replaced, floydFrom, floydOf}
@@ -14,7 +14,7 @@ use Rattle.weighted_index.specs.Answers.{refuses}
 use Rattle.weighted_index.specs.New.{makes, newOf}
 use Rattle.update_weights.specs.Change as Change
 use Rattle.pick.specs.Pick.{itemAt}
-use Rattle.worked_examples.specs.Table.{nextWords, drawRow, rejectRow, boundRow, newSums, pickRow, changeRow, table, holds, WorkedExamples}
+use Rattle.worked_examples.specs.Table.{drawRow, rejectRow, boundRow, newSums, pickRow, changeRow, table, holds, WorkedExamples}
 
 pub worked-examples : WorkedExamples
 unfolding add64 shl64 rotl64 output advance word boundedValue readsTwo bounded accepts scaled rejectingAt rejecting replaced floydFrom floydOf factors moreFrom moreOf handed indicesOf shuffleFrom shuffleOf total overflows allZero sumsFrom weightsFrom firstAbove tableOf heldSums heldWeights falls exceeds brokenTable refuses makes newOf Change.replaced Change.placesRefusal Change.weightsRefusal Change.itemsRefusal Change.listsRefusal Change.updateOf itemAt nextWords drawRow rejectRow boundRow newSums pickRow changeRow table holds

@@ -3,9 +3,9 @@
 use mathlib.Core.Path.{_≡_}
 use mathlib.Core.Bool.{Bool, true, _&&_}
 use mathlib.Core.List.{List, [], _∷_, _++_, map}
-use Prim.Native.Nat.{ℕ, zero, suc}
+use Prim.Native.Nat.{ℕ, suc}
 use Rattle.counting.specs.Lists.{same}
-use Rattle.xoshiro256plusplus.specs.Generator.{word, advance}
+use Rattle.xoshiro256plusplus.specs.Generator.{nextWords}
 use Rattle.xoshiro256plusplus.specs.declared.Xoshiro256PlusPlus.{Xoshiro256PlusPlus}
 use Rattle.uniform_int.specs.Bounded.{bounded}
 use Rattle.uniform_int.specs.Rejecting.{rejecting}
@@ -29,11 +29,6 @@ row c s = record { computed = c; stated = s }
 
 abbrev state : (s0 s1 s2 s3 : ℕ) → Xoshiro256PlusPlus
 state s0 s1 s2 s3 = record { s0 = s0; s1 = s1; s2 = s2; s3 = s3 }
-
--- the generator's next n words
-unfoldable pub nextWords : (n : ℕ) → Xoshiro256PlusPlus → List ℕ
-nextWords zero g = []
-nextWords (suc n) g = word g ∷ nextWords n (advance g)
 
 -- a bounded draw below r: the words that it reads, and its value
 unfoldable pub drawRow : (r : ℕ) → Xoshiro256PlusPlus → List ℕ

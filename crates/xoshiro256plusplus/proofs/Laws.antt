@@ -1,12 +1,14 @@
 -- What callers use of the generator's definitions.
 -- Assumes nothing.
-use mathlib.Core.Path.{_≡_, refl, ap}
+use mathlib.Core.Path.{_≡_, refl, sym, ap, _∙_}
+use mathlib.Core.List.{List, _∷_, _++_}
 use Prim.Native.Nat.{ℕ, zero, suc, _+_, _*_, _^_, _<_}
-use native.Mathlib.Nat.{mod-lt, add-zero, add-suc}
+use native.Mathlib.Nat.{mod-lt, add-zero, zero-add, add-suc, suc-add}
+use native.Mathlib.Numerals.{one-add}
 use lib.Pow.{pow-pos, shr-lt}
 use Rattle.xoshiro256plusplus.specs.Word64.{add64, mul64}
 use Rattle.xoshiro256plusplus.specs.Splitmix64.{nextSeed}
-use Rattle.xoshiro256plusplus.specs.Generator.{output, advance, word, steps}
+use Rattle.xoshiro256plusplus.specs.Generator.{output, advance, word, steps, nextWords}
 use Rattle.xoshiro256plusplus.specs.declared.Xoshiro256PlusPlus.{Xoshiro256PlusPlus}
 
 -- a sum and a product that keep the low 64 bits
@@ -52,3 +54,11 @@ pub steps-add : (k n : ℕ) (g : Xoshiro256PlusPlus) → steps n (steps k g) ≡
 unfolding steps
 steps-add k zero g = rw (add-zero k)
 steps-add k (suc n) g = rw (add-suc k n) (ap advance (steps-add k n g))
+
+-- words after words
+pub next-words-add : (k n : ℕ) (g : Xoshiro256PlusPlus) → nextWords (k + n) g ≡ nextWords k g ++ nextWords n (steps k g)
+unfolding nextWords
+next-words-add zero n g = rw (zero-add n, steps-zero g)
+next-words-add (suc k) n g =
+    let e : steps k (advance g) ≡ steps (suc k) g = ap (steps k) (sym (steps-one g)) ∙ steps-add 1 k g ∙ ap (λ (j : ℕ). steps j g) (one-add k) in
+    rw (suc-add k n) (ap (λ (ws : List ℕ). word g ∷ ws) (next-words-add k n (advance g) ∙ ap (λ (h : Xoshiro256PlusPlus). nextWords k (advance g) ++ nextWords n h) e))

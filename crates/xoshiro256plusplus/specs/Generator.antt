@@ -1,6 +1,7 @@
 -- xoshiro256++ 1.0, as Blackman and Vigna publish it.
 use mathlib.Core.Path.{_≡_}
 use mathlib.Core.Bool.{Bool, _&&_}
+use mathlib.Core.List.{List, [], _∷_}
 use Prim.Native.Nat.{ℕ, zero, suc, _/_, _^_}
 use lib.Bits.{bitXor}
 use lib.Dec.{eqb}
@@ -31,6 +32,11 @@ word g = output g / 2 ^ 32
 unfoldable pub steps : ℕ → Xoshiro256PlusPlus → Xoshiro256PlusPlus
 steps zero g = g
 steps (suc n) g = advance (steps n g)
+
+-- the words of the next k steps
+unfoldable pub nextWords : ℕ → Xoshiro256PlusPlus → List ℕ
+nextWords zero g = []
+nextWords (suc k) g = word g ∷ nextWords k (advance g)
 
 -- all four words are 0 (document 01: dead generator)
 unfoldable pub zeroState : Xoshiro256PlusPlus → Bool
