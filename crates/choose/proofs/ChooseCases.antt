@@ -145,3 +145,12 @@ module _ (budget : ℕ) (items : List ℕ) (n : ℕ) (g : Xoshiro256PlusPlus) wh
 
     pub exact-below : (ix : ℕ) → d .draw ≡ Value ix → ix < n
     exact-below ix q = within-lt n (budget - 0) 0 g (omega arith) ix (sym (ap (λ (x : Drawing). x .answer .values) gave) ∙ rw q)
+
+-- ---- hints that hold
+
+-- the stable choice is the same for all of them, refused or not
+pub any-hints : (g : Xoshiro256PlusPlus) (items lower upper lower' upper' : List ℕ) (budget : ℕ) → hintsHold (length items) lower upper ≡ true
+    → hintsHold (length items) lower' upper' ≡ true → chooseStableOf g items lower upper budget ≡ chooseStableOf g items lower' upper' budget
+unfolding chooseStableOf checkOf
+any-hints g items lower upper lower' upper' budget v v' =
+    rw (v, v', in-order budget lower items 0 0 [] [] (start g), in-order budget lower' items 0 0 [] [] (start g))

@@ -1,15 +1,22 @@
 -- What is said of the two choices besides.
 use mathlib.Core.Path.{_≡_}
+use mathlib.Core.Bool.{true}
 use mathlib.Core.List.{List, []}
 use mathlib.Core.Option.{none}
 use Prim.Native.Nat.{ℕ}
+use lib.ListN.{length}
 use Rattle.refusal.specs.Answer.{done}
 use Rattle.xoshiro256plusplus.specs.declared.Xoshiro256PlusPlus.{Xoshiro256PlusPlus}
 use Rattle.coin_flipper.specs.Within.{start}
+use Rattle.choose.specs.Hints.{hintsHold}
 use Rattle.choose.specs.Stable.{stableFrom}
 use Rattle.choose.specs.Choose.{checkOf, chooseOf, chooseStableOf}
 
 pub record Choosing : Type 0 where
+  -- Two runs of the stable choice on the same items, generator and budget give the same answer, words and generator, whichever hints that hold they
+  -- are given: refused runs too, and those that the budget ends.
+  pub any-hints : (g : Xoshiro256PlusPlus) (items lower upper lower' upper' : List ℕ) (budget : ℕ) → hintsHold (length items) lower upper ≡ true
+      → hintsHold (length items) lower' upper' ≡ true → chooseStableOf g items lower upper budget ≡ chooseStableOf g items lower' upper' budget
   -- the stable choice is one-over-(p + 1) for each place p in order, whatever the hints are that the call takes
   pub stable : (g : Xoshiro256PlusPlus) (items lower upper : List ℕ) (budget : ℕ) → checkOf g items lower upper ≡ none
       → chooseStableOf g items lower upper budget ≡ stableFrom budget items 0 [] (start g)

@@ -94,8 +94,9 @@ pub fn choose(
 
 // Chooses one item so that nothing but the generator and the count of the items decides which: the definition `chooseStableOf`, which follows
 // the Rust. It comes to one-over-n for each item in order, the nth, whatever the hints are (`stable` of `Choosing`), and so does the code, which
-// reads the hints only to refuse false ones. Refuses as `choose` does, and the answer is "none" exactly where there is no item. Cost: the
-// check of the hints, and for each item two coins on average.
+// reads the hints only to refuse false ones: all hints that hold give the same answer, words and generator (`any-hints` of `Choosing`). Of N
+// items none has more than one Nth of the rows of coins (`StableShares` of crate `choose_shares`). Refuses as `choose` does, and the answer is
+// "none" exactly where there is no item. Cost: the check of the hints, and for each item two coins on average.
 pub fn choose_stable(
     rng: Xoshiro256PlusPlus,
     items: &[u32],
