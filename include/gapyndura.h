@@ -18,7 +18,7 @@
 
 /* The version: 1 for the base, and one more with each request (docs/requests/). A caller can test it by #if; CHANGELOG.md says what has
  * to be changed in the caller, if anything has. */
-#define GAPYNDURA_VERSION 5
+#define GAPYNDURA_VERSION 6
 
 #ifdef __cplusplus
 extern "C" {
@@ -261,8 +261,8 @@ uint32_t gapyndura_weights_pick(uint64_t state[4], const uint64_t table[2], cons
 uint32_t gapyndura_choose(uint64_t state[4], const uint32_t *items, size_t items_len, const uint32_t *lower, size_t lower_len,
                           const uint32_t *upper, size_t upper_len, uint64_t budget, uint64_t out[3]);
 
-/* The same with coins for each item, whatever the hints: the words read and the item chosen are the same for all hints that are not
- * false.
+/* The same with coins for each item, whatever the hints: any two pairs of lower and upper hints that are not false give the same answer,
+ * words and generator, with the same items, state and budget.
  *
  * Answers 0, 12, 10, 11 or 13, and writes state and out, as gapyndura_choose does. No pointer is null, items neither where items_len
  * is 0. */

@@ -9,9 +9,9 @@
 
 #include <gapyndura.h>
 
-/* The calls are made as version 5 has them; CHANGELOG.md says what a later one changes. */
-#if GAPYNDURA_VERSION != 5
-#error "this program is written for version 5 of gapyndura.h"
+/* The calls are made as version 6 has them; CHANGELOG.md says what a later one changes. */
+#if GAPYNDURA_VERSION != 6
+#error "this program is written for version 6 of gapyndura.h"
 #endif
 
 /* The most words that a call may read which could else read on for ever. */

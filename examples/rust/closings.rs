@@ -11,8 +11,8 @@ use gapyndura::iterator::{choose, choose_stable, sample_fill};
 use gapyndura::slice::{partial_shuffle, shuffle};
 use gapyndura::{Refusal, WeightedIndex, Xoshiro256PlusPlus};
 
-/// The calls are made as version 5 has them; `CHANGELOG.md` says what a later one changes.
-const _: () = assert!(gapyndura::VERSION == 5);
+/// The calls are made as version 6 has them; `CHANGELOG.md` says what a later one changes.
+const _: () = assert!(gapyndura::VERSION == 6);
 
 /// The most words that a call may read which could else read on for ever.
 const BUDGET: u64 = 1000;

@@ -32,7 +32,7 @@ use kind::{Entry, Tally};
 use program::Program;
 
 /// The kinds of call at the C boundary, in the order in which they are run.
-const KINDS: [Entry; 17] = [
+const KINDS: [Entry; 18] = [
     Entry::of::<seeding::FromSeed>(),
     Entry::of::<seeding::SeedFromU64>(),
     Entry::of::<word::NextU32>(),
@@ -49,6 +49,7 @@ const KINDS: [Entry; 17] = [
     Entry::of::<weights::History>(),
     Entry::of::<choose::Choose>(),
     Entry::of::<choose::ChooseStable>(),
+    Entry::of::<choose::TwoReaders>(),
     Entry::of::<long_run::LongRun>(),
 ];
 

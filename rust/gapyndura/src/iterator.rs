@@ -183,8 +183,9 @@ pub fn choose(
 /// Chooses one of the items, and the same one whatever the hints are.
 ///
 /// The item, and the words read for it, are those of rand's `IteratorRandom::choose_stable`: coins decide for each item in
-/// turn whether it takes the place of the one chosen so far. Hints must hold, but nothing else hangs on them. The choice
-/// stops when `budget` words are read.
+/// turn whether it takes the place of the one chosen so far. Hints must hold, but nothing else hangs on them: any two pairs
+/// of `lower` and `upper` that hold give the same answer, words and generator, with the same items, generator and budget. The
+/// choice stops when `budget` words are read.
 ///
 /// ```
 /// use gapyndura::Xoshiro256PlusPlus;

@@ -88,7 +88,7 @@ pub use xoshiro256plusplus::Xoshiro256PlusPlus;
 
 /// The version, which is `GAPYNDURA_VERSION` of the header: 1 for the base, and one more with each request.
 /// `CHANGELOG.md` in the repository says what a caller has to change.
-pub const VERSION: u32 = 5;
+pub const VERSION: u32 = 6;
 
 #[cfg(test)]
 mod tests {

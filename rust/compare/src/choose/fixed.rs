@@ -20,11 +20,11 @@ const EVERY_BUDGET: usize = 3;
 const LOWER_ONLY: usize = 6;
 
 /// To this number of items, and at these longer ones, every pattern of hints is tried.
-const PATTERNED: usize = 40;
-const LONGER: [usize; 12] = [41, 63, 64, 65, 100, 127, 128, 129, 500, 1000, 1999, 2000];
+pub const PATTERNED: usize = 40;
+pub const LONGER: [usize; 12] = [41, 63, 64, 65, 100, 127, 128, 129, 500, 1000, 1999, 2000];
 
 /// A number of items for the stable choice, and numbers of which a draw takes all but the last ones.
-const LONG: usize = 100_000;
+pub const LONG: usize = 100_000;
 const DRAWN: [usize; 4] = [65_535, 65_536, 65_537, 1_000_000];
 const LAST: usize = 1000;
 
@@ -35,7 +35,7 @@ const FALSELY_HINTED: [usize; 7] = [0, 1, 2, 3, 5, 8, 100];
 const AFTER_COINS: usize = 9;
 
 /// A call with these hints. The items are not their places, and one of them is 0.
-fn with(from: State, (lower, upper): (Vec<u32>, Vec<u32>), items_len: usize) -> Input {
+pub fn with(from: State, (lower, upper): (Vec<u32>, Vec<u32>), items_len: usize) -> Input {
     let items = (0..).map(|place: u32| place.wrapping_mul(3).wrapping_sub(3));
     Input {
         from,
@@ -72,7 +72,7 @@ fn budgets(rand: choosing::Choose, input: Input, visit: &mut impl FnMut(Input)) 
 }
 
 /// All lists with one of `choices` at each place, which are given how many items remain there.
-fn all(items_len: usize, choices: impl Fn(u32) -> Vec<u32>) -> Vec<Vec<u32>> {
+pub fn all(items_len: usize, choices: impl Fn(u32) -> Vec<u32>) -> Vec<Vec<u32>> {
     let mut lists = vec![Vec::new()];
     for remain in (0..=items_len as u32).rev() {
         let longer = lists.iter().flat_map(|list| {
@@ -86,12 +86,12 @@ fn all(items_len: usize, choices: impl Fn(u32) -> Vec<u32>) -> Vec<Vec<u32>> {
 }
 
 /// All lower hints that hold for so many items.
-fn lowers(items_len: usize) -> Vec<Vec<u32>> {
+pub fn lowers(items_len: usize) -> Vec<Vec<u32>> {
     all(items_len, |remain| (0..=remain).collect())
 }
 
 /// All upper hints that are exact, one more, or none.
-fn uppers(items_len: usize) -> Vec<Vec<u32>> {
+pub fn uppers(items_len: usize) -> Vec<Vec<u32>> {
     all(items_len, |remain| vec![remain, remain + 1, NO_UPPER])
 }
 

@@ -59,6 +59,50 @@ fn the_most_items_are_looked_at() {
     }
 }
 
+/// The places at either end of a long list at which readers count what remains.
+const COUNTED: usize = 1000;
+
+/// So many items with the hints of two readers, all of which hold. They are in the same memory, the second reader's one entry further
+/// on: where they count, the first's lower hint is exact and the upper one more, and the second's lower is one less and the upper exact.
+fn two_readers(items_len: usize) -> [Lists<'static>; 2] {
+    let [lower, upper] = [0, NO_UPPER].map(|entry| repeated(entry, items_len + 2));
+    for at in (1..COUNTED).chain(items_len - COUNTED..=items_len) {
+        let remain = (items_len - at) as u32;
+        lower[at] = remain;
+        upper[at] = remain + 1;
+    }
+    let items = without_memory(items_len);
+    [0..items_len + 1, 1..items_len + 2].map(|places| Lists {
+        items,
+        lower: &lower[places.clone()],
+        upper: &upper[places],
+    })
+}
+
+/// Whether hints hold at the places where readers count, and at those next to them. At all others there are none.
+fn hold(lists: Lists<'_>) -> bool {
+    let len = lists.items.len();
+    let mut places = (0..=COUNTED).chain(len - COUNTED - 1..=len);
+    places.all(|place| {
+        let hints = lists.lower[place] as usize..=lists.upper[place] as usize;
+        hints.contains(&(len - place))
+    })
+}
+
+#[test]
+fn one_item_more_is_refused_whichever_hints_hold() {
+    let readers = two_readers(MOST_ITEMS + 1);
+    assert!(readers.into_iter().all(hold));
+    for (from, number) in [(FROM, 10), ([0; 4], 12)] {
+        for budget in [0, u64::MAX] {
+            let [first, second] = readers.map(|lists| port::choose_stable(from, lists, budget));
+            assert_eq!(first, second);
+            assert_eq!((first.number, first.item), (number, None));
+            assert_eq!((first.words, first.state), (0, from));
+        }
+    }
+}
+
 /// The items for which coins are flipped, each with a chance of about one in 2^32.
 const LAST: usize = 2000;
 

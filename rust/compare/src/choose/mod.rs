@@ -7,6 +7,7 @@ mod faults;
 mod fixed;
 #[cfg(test)]
 mod longest;
+mod pairs;
 pub mod port;
 mod random;
 #[cfg(test)]
@@ -22,6 +23,7 @@ use crate::inputs::Source;
 use crate::kind::Kind;
 use crate::slices::Lent;
 
+pub use pairs::TwoReaders;
 pub use random::count;
 
 /// Calls of `choose`, each from a generator of its own.
@@ -40,6 +42,10 @@ pub struct Calls<C> {
 pub trait Chooser {
     const NAME: &'static str;
     const FAULTS: &'static [&'static str];
+
+    /// Whether hints that hold make no difference.
+    const IS_STABLE: bool;
+
     const RAND: choosing::Choose;
     const PORT: choosing::Choose;
 
@@ -87,14 +93,19 @@ pub struct Answer {
 impl Answer {
     /// The answer where `end` ends the call.
     pub fn new(input: &Input, end: choosing::Choose) -> Self {
-        let mut lent = [&input.items, &input.lower, &input.upper].map(|list| Lent::of(list));
+        Self::lending(input.from, input.lists(), input.budget, end)
+    }
+
+    /// The same of a call that is lent copies of these lists.
+    fn lending(from: State, lists: Lists<'_>, budget: u64, end: choosing::Choose) -> Self {
+        let mut lent = [lists.items, lists.lower, lists.upper].map(Lent::of);
         let [items, lower, upper] = &mut lent;
         let lists = Lists {
             items: items.entries(),
             lower: lower.entries(),
             upper: upper.entries(),
         };
-        let chosen = end(input.from, lists, input.budget);
+        let chosen = end(from, lists, budget);
         Self { chosen, lent }
     }
 }
@@ -108,7 +119,12 @@ impl Chooser for AnyChoice {
         faults::SPENT_NONE,
         faults::WORDS,
         faults::HINTS_SHORT,
+        faults::HEADS_EXCHANGED,
+        faults::BITS_FROM_BELOW,
+        faults::ZERO_IS_YES,
+        faults::COIN_AT_ONE,
     ];
+    const IS_STABLE: bool = false;
     const RAND: choosing::Choose = choose;
     const PORT: choosing::Choose = port::choose;
 
@@ -129,12 +145,20 @@ impl Chooser for StableChoice {
         faults::SPENT_NONE,
         faults::WORDS,
         faults::HINTS_SHORT,
+        faults::HEADS_EXCHANGED,
+        faults::BITS_FROM_BELOW,
+        faults::ZERO_IS_YES,
+        faults::COIN_AT_ONE,
+        faults::HINTS_HEEDED,
+        faults::UPPER_HEEDED,
+        faults::GROUP_LOST,
     ];
+    const IS_STABLE: bool = true;
     const RAND: choosing::Choose = choose_stable;
     const PORT: choosing::Choose = port::choose_stable;
 
     fn faulty(plant: Option<&str>) -> Option<choosing::Choose> {
-        faults::either::<Self>(plant)
+        faults::choose_stable(plant)
     }
 
     fn further(visit: &mut impl FnMut(Input)) {

@@ -49,7 +49,7 @@ pub fn count(source: &mut Source) -> usize {
 }
 
 /// Any item, or one at an edge.
-fn item(source: &mut Source) -> u32 {
+pub fn item(source: &mut Source) -> u32 {
     match source.below(8) {
         0 => 0,
         1 => u32::MAX,
@@ -58,7 +58,7 @@ fn item(source: &mut Source) -> u32 {
 }
 
 /// Hints that hold, of one of several kinds: near at every place, far at every place, or any mix.
-fn held(len: usize, source: &mut Source) -> (Vec<u32>, Vec<u32>) {
+pub fn held(len: usize, source: &mut Source) -> (Vec<u32>, Vec<u32>) {
     // How often in eight a lower hint is 0, and an upper is none.
     let [no_lower, no_upper] = [(); 2].map(|()| source.one_of(&[0, 1, 4, 7, 8]));
     let remaining = (0..=len as u32).rev();
@@ -102,7 +102,7 @@ fn spoil(lower: &mut Vec<u32>, upper: &mut Vec<u32>, source: &mut Source) {
 }
 
 /// A budget: enough, or few words, or about as many as coins for all the items take.
-fn budget(len: usize, source: &mut Source) -> u64 {
+pub fn budget(len: usize, source: &mut Source) -> u64 {
     match source.below(8) {
         0 => source.u64(),
         1 => source.below(4).into(),

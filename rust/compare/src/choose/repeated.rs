@@ -1,4 +1,4 @@
-//! Long lists of one number, which take the memory of a short one.
+//! Long lists of one number, which take the memory of a short one where they are not written.
 
 use std::fs::File;
 use std::io::Write;
@@ -27,19 +27,29 @@ fn file() -> File {
     unsafe { File::from_raw_fd(descriptor) }
 }
 
-/// So many entries, each this number.
-pub fn repeated(entry: u32, len: usize) -> &'static [u32] {
-    const READ: i32 = 1;
-    const SHARED_FIXED: i32 = 0x1 | 0x10;
+/// So many entries, each this number. Those that are written take memory of their own.
+pub fn repeated(entry: u32, len: usize) -> &'static mut [u32] {
+    const READ_AND_WRITE: i32 = 1 | 2;
+    const PRIVATE_FIXED_NORESERVE: i32 = 0x2 | 0x10 | 0x4000;
     let mut file = file();
     let block = entry.to_ne_bytes().repeat(ENTRIES);
     file.write_all(&block).expect("the block is written");
     let list = without_memory::<u32>(len.next_multiple_of(ENTRIES));
     for block in list.chunks_exact_mut(ENTRIES) {
         let at = block.as_mut_ptr().cast();
-        // SAFETY: what is replaced are pages that this list alone has, all of them, by others of the same size, which nobody writes.
-        let mapped = unsafe { mmap(at, BLOCK, READ, SHARED_FIXED, file.as_raw_fd(), 0) };
+        // SAFETY: what is replaced are pages that this list alone has, all of them, by others of the same size. One that is written is
+        // first copied, so that no other changes with it.
+        let mapped = unsafe {
+            mmap(
+                at,
+                BLOCK,
+                READ_AND_WRITE,
+                PRIVATE_FIXED_NORESERVE,
+                file.as_raw_fd(),
+                0,
+            )
+        };
         assert_eq!(mapped, at, "the block is mapped");
     }
-    &list[..len]
+    &mut list[..len]
 }

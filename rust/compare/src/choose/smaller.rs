@@ -6,29 +6,42 @@ use crate::weights::lists;
 
 /// The choices that are one step smaller than this one.
 pub fn than(input: &Input) -> Vec<Input> {
-    let with = |change: &dyn Fn(&mut Input)| {
-        let mut less = input.clone();
-        change(&mut less);
-        less
-    };
-    let mut inputs = fewer(input);
-    for less in lists(&input.lower) {
-        inputs.push(with(&|input| input.lower = less.clone()));
-    }
-    for less in lists(&input.upper) {
-        inputs.push(with(&|input| input.upper = less.clone()));
-    }
-    for less in lists(&input.items) {
-        inputs.push(with(&|input| input.items = less.clone()));
-    }
-    inputs.extend(smaller(input.budget).map(|less| with(&|input| input.budget = less)));
-    inputs.extend(smaller_states(input.from).map(|less| with(&|input| input.from = less)));
-    inputs
+    [fewer(input), hints(input), others(input)].concat()
+}
+
+/// The same with other hints.
+pub fn hints(input: &Input) -> Vec<Input> {
+    let lowers = lists(&input.lower).into_iter().map(|lower| Input {
+        lower,
+        ..input.clone()
+    });
+    let uppers = lists(&input.upper).into_iter().map(|upper| Input {
+        upper,
+        ..input.clone()
+    });
+    lowers.chain(uppers).collect()
+}
+
+/// The same with other items, another budget or another generator.
+pub fn others(input: &Input) -> Vec<Input> {
+    let items = lists(&input.items).into_iter().map(|items| Input {
+        items,
+        ..input.clone()
+    });
+    let budgets = smaller(input.budget).map(|budget| Input {
+        budget,
+        ..input.clone()
+    });
+    let states = smaller_states(input.from).map(|from| Input {
+        from,
+        ..input.clone()
+    });
+    items.chain(budgets).chain(states).collect()
 }
 
 /// The same without some items and the hints that go with them. Hints that held still hold: those of the places before are at most what
 /// remains there now, and an upper hint that was one stays above that.
-fn fewer(input: &Input) -> Vec<Input> {
+pub fn fewer(input: &Input) -> Vec<Input> {
     let len = input.items.len();
     if input.lower.len() < len || input.upper.len() < len {
         return Vec::new();

@@ -10,6 +10,9 @@ use crate::shuffle_line::items;
 /// How many patterns there are.
 pub const PATTERNS: u64 = 8;
 
+/// Those whose hints hold.
+pub const TRUE_PATTERNS: [u64; 6] = [0, 1, 2, 3, 4, 7];
+
 /// The hints of a line, by the number that says which.
 #[derive(Clone, Debug, PartialEq, Eq)]
 pub enum Hints {
@@ -153,7 +156,7 @@ fn hint(pattern: u64, n: u32, place: u32) -> (u32, u32) {
 
 #[cfg(test)]
 mod tests {
-    use super::{Choosing, Hints, PATTERNS, hints};
+    use super::{Choosing, Hints, PATTERNS, TRUE_PATTERNS, hints};
     use crate::choosing::{Lists, NO_UPPER, choose};
 
     const FROM: [u64; 4] = [1, 2, 3, 4];
@@ -222,8 +225,8 @@ mod tests {
                     lower: &lower,
                     upper: &upper,
                 };
-                let is_false = pattern == 5 || pattern == 6;
-                assert_eq!(lists.are_hints_good(), !is_false, "{pattern}: {len}");
+                let is_true = TRUE_PATTERNS.contains(&pattern);
+                assert_eq!(lists.are_hints_good(), is_true, "{pattern}: {len}");
             }
         }
     }
