@@ -14,11 +14,12 @@ pub extern "C" fn gapyndura_partial_shuffle(
     state: &mut [u64; 4],
     items: &mut [u32],
     amount: u64,
+    budget: u64,
     out: &mut [u64; 2],
 ) -> u32
-    ensures { λ r. ⌜ record { number = r; state = now (state .exit); out = now (out .exit); items = now (items .exit) } ≡ shuffled (partialShuffleOf amount (generator (now (state .entry))) (now (items .entry))) ⌝ }
+    ensures { λ r. ⌜ record { number = r; state = now (state .exit); out = now (out .exit); items = now (items .exit) } ≡ shuffled (partialShuffleOf amount budget (generator (now (state .entry))) (now (items .entry))) ⌝ }
 {
-    let s = partial_shuffle(load(*state), items, amount);
+    let s = partial_shuffle(load(*state), items, amount, budget);
     let rng = s.rng;
     report(rng, s.words, s.n, state, out);
     let outcome = s.outcome;
@@ -30,11 +31,12 @@ pub extern "C" fn gapyndura_partial_shuffle(
 pub extern "C" fn gapyndura_shuffle(
     state: &mut [u64; 4],
     items: &mut [u32],
+    budget: u64,
     out: &mut [u64; 2],
 ) -> u32
-    ensures { λ r. ⌜ record { number = r; state = now (state .exit); out = now (out .exit); items = now (items .exit) } ≡ shuffled (wholeShuffleOf (generator (now (state .entry))) (now (items .entry))) ⌝ }
+    ensures { λ r. ⌜ record { number = r; state = now (state .exit); out = now (out .exit); items = now (items .exit) } ≡ shuffled (wholeShuffleOf budget (generator (now (state .entry))) (now (items .entry))) ⌝ }
 {
-    let s = shuffle(load(*state), items);
+    let s = shuffle(load(*state), items, budget);
     let rng = s.rng;
     report(rng, s.words, s.n, state, out);
     let outcome = s.outcome;

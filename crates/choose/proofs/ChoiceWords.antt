@@ -119,7 +119,7 @@ module _ (g : Xoshiro256PlusPlus) (budget : ℕ) where
       none : boundedWithin (suc (suc n)) budget g 0 .answer .number ≡ 13 → boundedWithin (suc (suc n)) budget g 0 .answer .values ≡ []
       none e =
           ⊎-elim
-          (λ a. absurd (never (boundedWithin (suc (suc n)) budget g 0 .answer) (ap (λ (x : Answer). x .number) a) e))
+          (λ a. absurd (never (boundedWithin (suc (suc n)) budget g 0 .answer) (ap (λ (x : Answer). x .number) (a .1)) e))
           (λ a. ap (λ (x : Answer). x .values) a)
           (within-ends (suc (suc n)) budget 0 g)
 

@@ -16,7 +16,7 @@ use Rattle.refusal.specs.declared.Refusal.{Refusal}
 use Rattle.refusal.specs.declared.Refusal.the-variants.{BudgetExhausted}
 use Rattle.xoshiro256plusplus.specs.declared.Xoshiro256PlusPlus.{Xoshiro256PlusPlus}
 use Rattle.uniform_int.specs.Rejecting.{Drawing}
-use Rattle.uniform_int.proofs.Laws.{within-ends, within-lt}
+use Rattle.uniform_int.proofs.Laws.{within-ends, within-first}
 use Rattle.coin_flipper.specs.Within.{Coins, oneOverWithin, start}
 use Rattle.coin_flipper.proofs.Laws.{one-over-one}
 use Rattle.choose.specs.Turns.{ending, after, given, taking, byCoin, drawing, byDraw}
@@ -84,13 +84,8 @@ module _ (budget : ℕ) (f : List ℕ → Coins → Drawing) (keeps : Keeps f) w
     where
       below : (v : ℕ) (ws : List ℕ) → drawing budget (l + 0) s .answer .values ≡ v ∷ ws → (z : ℕ) × (zs : List ℕ) × (cond (ltb v l) (getD items v 0 ∷ []) [] ≡ z ∷ zs)
       below v ws e =
-          ⊎-elim
-          (λ a.
-          let q : drawing budget (l + 0) s .answer .values ≡ v ∷ [] = cc in
-          let lt : v < l + 0 = within-lt (l + 0) (budget - s .words) (s .words) (s .rng) (omega arith) v q in
-          (getD items v 0, [], rw (lt-ltb v l (omega arith))))
-          (λ a. let z : _≡_ {A = ℕ} 0 1 = cc in absurd (omega arith))
-          (within-ends (l + 0) (budget - s .words) (s .words) (s .rng))
+          let lt : v < l + 0 = within-first (l + 0) (budget - s .words) (s .words) (s .rng) (omega arith) v ws e in
+          (getD items v 0, [], rw (lt-ltb v l (omega arith)))
 
   first-turn : (l : ℕ) (items : List ℕ) (s : Coins) → Some (after (turnOf budget l 0 items [] s) f)
   unfolding turnOf
@@ -134,7 +129,7 @@ unfolding exactly
 exact-some budget items zero g = some-item (getD items 0 0) []
 exact-some budget items (suc n) g =
     ⊎-elim
-    (λ a. rw a (some-item _ []))
+    (λ a. rw (a .1) (some-item _ []))
     (λ a. rw a (some-refusal BudgetExhausted))
     (within-ends (suc (suc n)) budget 0 g)
 

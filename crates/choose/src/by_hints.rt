@@ -16,7 +16,7 @@ use super::turns::turn_at;
 use coin_flipper::CoinFlipper;
 use refusal::Refusal;
 use uniform_int::Draw;
-use uniform_int::random_range_within;
+use uniform_int::random_range;
 use xoshiro256plusplus::Xoshiro256PlusPlus;
 
 // The count of the items is known: none, the one, or one draw. The definition is `exactly`.
@@ -33,7 +33,7 @@ pub(crate) fn choose_exact(rng: Xoshiro256PlusPlus, items: &[u32], budget: u64) 
         return ended(Choice::Item(only), 0, rng);
     }
     let range = count as u32;
-    let drawn = random_range_within(rng, range, 0, budget);
+    let drawn = random_range(rng, range, 0, budget);
     let after = drawn.rng;
     let words = drawn.words;
     let draw = drawn.draw;

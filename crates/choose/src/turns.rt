@@ -9,7 +9,7 @@ ghost use Rattle.choose.specs.Turns.{byCoin, byDraw, heldAt, turned};
 use coin_flipper::CoinFlipper;
 use coin_flipper::Flip;
 use uniform_int::Draw;
-use uniform_int::random_range_within;
+use uniform_int::random_range;
 use xoshiro256plusplus::Xoshiro256PlusPlus;
 
 // The place of the item that is held, whether the budget ran out, and the coins. What is held goes from turn to turn as a plain number, and not
@@ -74,7 +74,7 @@ pub(crate) fn by_draw(
     let rng = flipper.rng;
     let consumed = at as u32;
     let range = least + consumed;
-    let drawn = random_range_within(rng, range, flipper.words, budget);
+    let drawn = random_range(rng, range, flipper.words, budget);
     let after = drawn.rng;
     let next = after_draw(flipper, after, drawn.words);
     let draw = drawn.draw;

@@ -1,15 +1,15 @@
--- Laws of counts of numbers and of pairs.
+-- Laws of counts of numbers.
 -- Assumes nothing.
 use mathlib.Core.Path.{_≡_, refl, sym, ap, ap₂, _∙_}
 use mathlib.Core.Bool.{Bool, true, false, not, _&&_}
-use Prim.Native.Nat.{ℕ, zero, suc, _+_, _-_, _*_, _≤_, _<_}
+use Prim.Native.Nat.{ℕ, _+_, _-_, _*_, _≤_, _<_}
 use native.Mathlib.Nat.{add-zero, zero-add, zero-mul, mul-one}
 use native.Mathlib.Omega.{arith}
 use lib.Dec.{eqb}
 use borrow.Author.Tests.{eq-eqb, ne-eqb}
-use Rattle.counting.specs.Count.{oneIf, sum, count, countPairs}
+use Rattle.counting.specs.Count.{oneIf, sum, count}
 use Rattle.counting.proofs.Tests.{oneIf-and}
-use Rattle.counting.proofs.Sums.{sum-cong, sum-zero, sum-const, sum-add, sum-mul, sum-split, sum-blocks, sum-swap, sum-single}
+use Rattle.counting.proofs.Sums.{sum-cong, sum-zero, sum-const, sum-add, sum-mul, sum-split, sum-swap, sum-single}
 
 pub count-cong : (p q : ℕ → Bool) (n : ℕ) → ((k : ℕ) → k < n → p k ≡ q k) → count p n ≡ count q n
 unfolding count
@@ -73,11 +73,6 @@ count-parts h n r l =
     sum-cong (λ c. count (λ k. eqb (h k) c) n) (λ c. count (λ k. eqb (h k) c) n * 1) r (λ c m. sym (mul-one _))
     ∙ sym (count-fibres (λ k. true) h (λ c. true) n r l)
     ∙ count-all (λ k. true) n (λ k m. refl)
-
--- a pair as one number, its first entry the higher digit
-pub pairs-flat : (p : ℕ → Bool) (m n : ℕ) → countPairs (λ a b. p (a * n + b)) m n ≡ count p (m * n)
-unfolding countPairs count
-pairs-flat p m n = sum-blocks (λ k. oneIf (p k)) m n
 
 -- those that pass and those that fail
 pub count-not : (p : ℕ → Bool) (n : ℕ) → count p n + count (λ k. not (p k)) n ≡ n

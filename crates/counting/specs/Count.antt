@@ -1,4 +1,4 @@
--- Counting: how many numbers, pairs of numbers and lists of numbers pass a test. A share is such a count.
+-- Counting: how many numbers and lists of numbers pass a test. A share is such a count.
 use mathlib.Core.Bool.{Bool, true, false}
 use mathlib.Core.List.{List, [], _∷_}
 use Prim.Native.Nat.{ℕ, zero, suc, _+_, _*_}
@@ -16,10 +16,6 @@ sum f (suc n) = sum f n + f n
 -- how many k below n pass the test p
 unfoldable pub count : (ℕ → Bool) → ℕ → ℕ
 count p n = sum (λ k. oneIf (p k)) n
-
--- how many pairs of an a below m and a b below n pass the test p
-unfoldable pub countPairs : (ℕ → ℕ → Bool) → ℕ → ℕ → ℕ
-countPairs p m n = sum (λ a. count (p a) n) m
 
 -- how many lists pass the test p, of those that have an entry below each bound, in the bounds' order
 unfoldable pub countLists : (List ℕ → Bool) → List ℕ → ℕ

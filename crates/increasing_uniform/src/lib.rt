@@ -1,11 +1,12 @@
 // Indices below 1, 2, 3, .. for the steps of a shuffle, as in rand's `increasing_uniform.rs`. One bounded draw, a chunk, serves for
 // several indices.
 ghost use mathlib.Core.Path.{_≡_};
-ghost use Prim.Native.Nat.{_-_, _*_, _^_, _≤_, _<_};
+ghost use Prim.Native.Nat.{_-_, _^_, _<_};
 ghost use Rattle.increasing_uniform.specs.Bound.{ChunkBound};
 ghost use Rattle.increasing_uniform.specs.Chunks.{digit};
-ghost use Rattle.increasing_uniform.specs.State.{startOf, refilledOf, rest, handedOutOf, nextOf};
-use uniform_int::random_range;
+ghost use Rattle.increasing_uniform.specs.State.{startOf, rest, shown, handedOutOf, nextOf};
+use uniform_int::Draw;
+use uniform_int::random_range_wide;
 use xoshiro256plusplus::Xoshiro256PlusPlus;
 
 // The bound of a chunk, and the number of its factors.
@@ -75,9 +76,9 @@ pub struct IncreasingUniform {
     pub words: u64,
 }
 
-// An index, and the state after it.
+// An index, or that a word is needed and the budget is used up; and the state after it. The definition `shown` gives the number and the values of each case.
 pub struct Index {
-    pub value: u32,
+    pub draw: Draw,
     pub state: IncreasingUniform,
 }
 
@@ -96,28 +97,23 @@ impl IncreasingUniform {
         }
     }
 
-    // An empty chunk is refilled by a bounded draw.
-    fn refilled(self) -> Self
-        requires { ⌜ (self .n < 2 ^ 32 - 2) × (self .words ≤ 2 * self .n) ⌝ }
-        ensures { λ s. ⌜ s ≡ refilledOf self ⌝ }
+    // The state with another chunk, which holds so many indices, after a draw.
+    fn with_chunk(self, chunk: u32, count: u32, words: u64, rng: Xoshiro256PlusPlus) -> Self
+        ensures { λ s. ⌜ s ≡ record { rng = rng; n = self .n; chunk = chunk; «chunk_remaining» = count; words = words } ⌝ }
     {
-        let bound = calculate_bound_u32(self.n + 1);
-        let rng = self.rng;
-        let drawn = random_range(rng, bound.bound);
-        let after = drawn.rng;
         IncreasingUniform {
-            rng: after,
+            rng: rng,
             n: self.n,
-            chunk: drawn.value,
-            chunk_remaining: bound.count,
-            words: self.words + drawn.words,
+            chunk: chunk,
+            chunk_remaining: count,
+            words: words,
         }
     }
 
     // The next index of a chunk that is not empty.
     fn hand_out(self) -> Index
         requires { ⌜ (self .n < 2 ^ 32 - 2) × (0 < self .«chunk_remaining») ⌝ }
-        ensures { λ r. ⌜ r ≡ handedOutOf self ⌝ }
+        ensures { λ r. ⌜ shown r ≡ handedOutOf self ⌝ }
     {
         let next_n = self.n + 1;
         let left = self.chunk_remaining - 1;
@@ -131,22 +127,35 @@ impl IncreasingUniform {
             words: self.words,
         };
         Index {
-            value: digit.value,
+            draw: Draw::Value(digit.value),
             state: state,
         }
     }
 
-    // The index for m = n + 1, and the state for the next one. The definition is `nextOf`. Steps from the start hand out `indicesOf` the chunks
-    // drawn (`coming-start`, `coming-next` of `Steps`), and each list of indices has the same share of the lists of chunk values
-    // (`IncreasingShares`). Reads nothing while the chunk lasts, and else the words of one bounded draw.
-    pub fn next_index(self) -> Index
-        requires { ⌜ (self .n < 2 ^ 32 - 2) × (self .words ≤ 2 * self .n) ⌝ }
-        ensures { λ r. ⌜ r ≡ nextOf self ⌝ }
+    // The index for m = n + 1 within the budget, of which the state's words are used up before, and the state for the next one. The definition is `nextOf`.
+    // Steps from the start hand out `indicesOf` the chunks drawn (`coming-start`, `next-value`, `next-spent` of `Steps`), and each list of indices
+    // has the same share of the lists of chunk values (`IncreasingShares`). Reads nothing while the chunk lasts, and else the words of one bounded
+    // draw; the budget is looked at for that draw alone.
+    pub fn next_index(self, budget: u64) -> Index
+        requires { ⌜ self .n < 2 ^ 32 - 2 ⌝ }
+        ensures { λ r. ⌜ shown r ≡ nextOf budget self ⌝ }
     {
         if self.chunk_remaining > 0 {
             return self.hand_out();
         }
-        let full = self.refilled();
+        let bound = calculate_bound_u32(self.n + 1);
+        let rng = self.rng;
+        let drawn = random_range_wide(rng, bound.bound, self.words, budget);
+        let after = drawn.rng;
+        let draw = drawn.draw;
+        let Draw::Value(chunk) = draw else {
+            let empty = self.with_chunk(0, 0, drawn.words, after);
+            return Index {
+                draw: Draw::Spent,
+                state: empty,
+            };
+        };
+        let full = self.with_chunk(chunk, bound.count, drawn.words, after);
         full.hand_out()
     }
 }

@@ -15,10 +15,12 @@ use Rattle.xoshiro256plusplus.specs.declared.Xoshiro256PlusPlus.{Xoshiro256Plus
 use Rattle.crossover.specs.Method.{methodOf}
 use Rattle.crossover.specs.declared.Method.the-variants.{Floyd, InPlace, Rejection}
 use Rattle.crossover.proofs.Laws.{never-rejection}
+use Rattle.uniform_int.specs.Draws.{Draws, draws}
+use Rattle.index_methods.specs.Floyd.{floydBounds}
+use Rattle.index_methods.specs.InPlace.{falling}
 use Rattle.index_methods.specs.Rejection.{Found, foundOf}
-use Rattle.uniform_int.specs.declared.Reading.{Reading}
 use Rattle.index_methods.specs.Methods.{FloydSample, InPlaceSample, RejectionSample}
-use Rattle.index_methods.specs.declared.rejection.FoundIndices.{FoundIndices}
+use Rattle.index_methods.specs.declared.FoundIndices.{FoundIndices}
 use Rattle.index.specs.Sample.{ended, refuses, written, byFloyd, byInPlace, byRejection, byMethod, sampleOf}
 use Rattle.index.specs.declared.IndexSample.{IndexSample}
 
@@ -52,7 +54,7 @@ module _ (n amount budget : ℕ) (g : Xoshiro256PlusPlus) (indices scratch : Lis
     unfolding sampleOf
     by-method = rw (f .alive, le-ltb (2 ^ 32 - 1) n (f .short), le-ltb n amount (f .enough), le-ltb (length indices) amount (f .room))
 
-    pub floyd : methodOf n amount ≡ Floyd → sampleOf n amount budget g indices scratch ≡ byFloyd n amount g indices scratch
+    pub floyd : methodOf n amount ≡ Floyd → sampleOf n amount budget g indices scratch ≡ byFloyd n amount (draws budget (floydBounds n amount) g) indices scratch
     unfolding byMethod
     floyd e = rw e at by-method
 
@@ -60,7 +62,8 @@ module _ (n amount budget : ℕ) (g : Xoshiro256PlusPlus) (indices scratch : Lis
     unfolding byMethod
     scratch-short e h = rw (e, lt-ltb (length scratch) n h) at by-method
 
-    pub in-place : methodOf n amount ≡ InPlace → n ≤ length scratch → sampleOf n amount budget g indices scratch ≡ byInPlace n amount g indices scratch
+    pub in-place : methodOf n amount ≡ InPlace → n ≤ length scratch
+        → sampleOf n amount budget g indices scratch ≡ byInPlace n amount (draws budget (falling n amount) g) indices scratch
     unfolding byMethod
     in-place e h = rw (e, le-ltb (length scratch) n h) at by-method
 
@@ -70,22 +73,21 @@ module _ (n amount budget : ℕ) (g : Xoshiro256PlusPlus) (indices scratch : Lis
 
 -- ---- what a method's function leaves, and the answer made of it, are the method's case of the definition
 
-module _ (n amount : ℕ) (g : Xoshiro256PlusPlus) (r : Reading) (s : IndexSample) (all : answerOf (s .outcome) (s .count) ≡ written true amount)
+module _ (r : FoundIndices) (s : IndexSample) (answer : answerOf (s .outcome) (s .count) ≡ written (r .all) (r .count))
     (read : s .words ≡ r .words) (after : s .rng ≡ r .rng) where
-  pub floyd-done : (before now scratch : List ℕ) → FloydSample n amount g before now r → ended s now scratch ≡ byFloyd n amount g before scratch
+  pub floyd-done : (n amount : ℕ) (d : Draws) (before now scratch : List ℕ) → FloydSample n amount d before now r
+      → ended s now scratch ≡ byFloyd n amount d before scratch
   unfolding byFloyd
-  floyd-done before now scratch f = rw (all, read, after, f .indices, f .words, f .rng)
+  floyd-done n amount d before now scratch f = rw (answer, read, after, f .indices, f .count, f .all, f .words, f .rng)
 
-  pub in-place-done : (before now scratch scratch′ : List ℕ) → InPlaceSample n amount g before now scratch scratch′ r
-      → ended s now scratch′ ≡ byInPlace n amount g before scratch
+  pub in-place-done : (n amount : ℕ) (d : Draws) (before now scratch scratch′ : List ℕ) → InPlaceSample n amount d before now scratch scratch′ r
+      → ended s now scratch′ ≡ byInPlace n amount d before scratch
   unfolding byInPlace
-  in-place-done before now scratch scratch′ f = rw (all, read, after, f .indices, f .scratch, f .words, f .rng)
+  in-place-done n amount d before now scratch scratch′ f = rw (answer, read, after, f .indices, f .scratch, f .count, f .all, f .words, f .rng)
 
-pub rejection-done : (f : Found) (r : FoundIndices) (s : IndexSample) (before now scratch : List ℕ) → RejectionSample f before now r
-    → answerOf (s .outcome) (s .count) ≡ written (r .all) (r .count) → s .words ≡ r .words → s .rng ≡ r .rng
-    → ended s now scratch ≡ byRejection f before scratch
-unfolding byRejection
-rejection-done f r s before now scratch e answer read after = rw (answer, read, after, e .indices, e .count, e .all, e .words, e .rng)
+  pub rejection-done : (f : Found) (before now scratch : List ℕ) → RejectionSample f before now r → ended s now scratch ≡ byRejection f before scratch
+  unfolding byRejection
+  rejection-done f before now scratch e = rw (answer, read, after, e .indices, e .count, e .all, e .words, e .rng)
 
 -- where rejection is due, there is something to draw from
 pub positive : (n amount : ℕ) → methodOf n amount ≡ Rejection → amount ≤ n → 0 < n

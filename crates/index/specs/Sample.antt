@@ -1,5 +1,5 @@
 -- What a sample leaves behind: the answer, the words read, the generator and both slices.
-use mathlib.Core.Bool.{Bool, true, cond}
+use mathlib.Core.Bool.{Bool, cond}
 use mathlib.Core.List.{List, _++_}
 use Prim.Native.Nat.{ℕ, _-_, _^_}
 use lib.Dec.{ltb}
@@ -9,7 +9,7 @@ use Rattle.refusal.specs.declared.Refusal.{Refusal}
 use Rattle.refusal.specs.declared.Refusal.the-variants.{AmountExceedsLength, SliceTooShort, ScratchTooShort, TooLong, ZeroState, BudgetExhausted}
 use Rattle.xoshiro256plusplus.specs.Generator.{zeroState}
 use Rattle.xoshiro256plusplus.specs.declared.Xoshiro256PlusPlus.{Xoshiro256PlusPlus}
-use Rattle.uniform_int.specs.Draws.{draws}
+use Rattle.uniform_int.specs.Draws.{Draws, draws}
 use Rattle.crossover.specs.Method.{methodOf}
 use Rattle.crossover.specs.declared.Method.{Method}
 use Rattle.crossover.specs.declared.Method.the-variants.{Floyd, InPlace, Rejection}
@@ -34,30 +34,30 @@ ended r indices scratch = record { answer = answerOf (r .outcome) (r .count); wo
 unfoldable pub refuses : Refusal → Xoshiro256PlusPlus → List ℕ → List ℕ → Sampling
 refuses r g indices scratch = record { answer = answerOf (Refused r) 0; words = 0; rng = g; indices = indices; scratch = scratch }
 
--- so many indices are written: all that were wanted, or those found when the budget ran out
+-- so many indices are written: all that were wanted, or those that were when the budget ran out
 abbrev pub written : (all : Bool) (count : ℕ) → Answer
 written all count = answerOf (cond all Done (Refused BudgetExhausted)) count
 
--- Floyd's method: the scratch slice stays as it was
-unfoldable pub byFloyd : (n amount : ℕ) → Xoshiro256PlusPlus → List ℕ → List ℕ → Sampling
-byFloyd n amount g indices scratch =
+-- Floyd's method: what the finished draws give stands at the front, replacements made; the scratch slice stays as it was
+unfoldable pub byFloyd : (n amount : ℕ) → Draws → List ℕ → List ℕ → Sampling
+byFloyd n amount d indices scratch =
     record {
-      answer = written true amount;
-      words = draws (floydBounds n amount) g .words;
-      rng = draws (floydBounds n amount) g .rng;
-      indices = floydOf n amount (draws (floydBounds n amount) g .values) ++ drop amount indices;
+      answer = written (d .all) (length (d .values));
+      words = d .words;
+      rng = d .rng;
+      indices = floydOf n amount (d .values) ++ drop (length (d .values)) indices;
       scratch = scratch;
     }
 
--- in place: the scratch slice keeps the whole arrangement
-unfoldable pub byInPlace : (n amount : ℕ) → Xoshiro256PlusPlus → List ℕ → List ℕ → Sampling
-byInPlace n amount g indices scratch =
+-- in place: the scratch slice keeps the whole arrangement, as far as draws are finished; the sample is written only where all are
+unfoldable pub byInPlace : (n amount : ℕ) → Draws → List ℕ → List ℕ → Sampling
+byInPlace n amount d indices scratch =
     record {
-      answer = written true amount;
-      words = draws (falling n amount) g .words;
-      rng = draws (falling n amount) g .rng;
-      indices = take amount (arranged n (draws (falling n amount) g .values)) ++ drop amount indices;
-      scratch = arranged n (draws (falling n amount) g .values) ++ drop n scratch;
+      answer = written (d .all) (cond (d .all) amount 0);
+      words = d .words;
+      rng = d .rng;
+      indices = cond (d .all) (take amount (arranged n (d .values)) ++ drop amount indices) indices;
+      scratch = arranged n (d .values) ++ drop n scratch;
     }
 
 -- rejection: what is found stands at the front; where that is not all, the budget was used up
@@ -73,9 +73,9 @@ byRejection f indices scratch =
 
 -- the method that is due
 unfoldable pub byMethod : Method → (n amount budget : ℕ) → Xoshiro256PlusPlus → List ℕ → List ℕ → Sampling
-byMethod Floyd n amount budget g indices scratch = byFloyd n amount g indices scratch
+byMethod Floyd n amount budget g indices scratch = byFloyd n amount (draws budget (floydBounds n amount) g) indices scratch
 byMethod InPlace n amount budget g indices scratch =
-    cond (ltb (length scratch) n) (refuses ScratchTooShort g indices scratch) (byInPlace n amount g indices scratch)
+    cond (ltb (length scratch) n) (refuses ScratchTooShort g indices scratch) (byInPlace n amount (draws budget (falling n amount) g) indices scratch)
 byMethod Rejection n amount budget g indices scratch = byRejection (foundOf n amount budget g) indices scratch
 
 -- the first refusal that applies, else the sample (document 01: tray for indices, work slice or bench for scratch, allowance for budget)

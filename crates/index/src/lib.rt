@@ -1,5 +1,4 @@
 // Samples of distinct indices, as in rand's `index.rs`: the call. Its three methods are in crate `index_methods`.
-ghost use mathlib.Core.Bool.{true};
 ghost use mathlib.Core.List.{List};
 ghost use mathlib.Core.Path.{_≡_};
 ghost use Prim.Native.Nat.{ℕ};
@@ -7,13 +6,12 @@ ghost use Rattle.refusal.specs.Answer.{answerOf};
 ghost use Rattle.index.specs.Sample.{ended, refuses, written, sampleOf};
 use choose_method::choose_method;
 use crossover::Method;
+use index_methods::FoundIndices;
 use index_methods::floyd::sample_floyd;
 use index_methods::in_place::sample_inplace;
-use index_methods::rejection::FoundIndices;
 use index_methods::rejection::sample_rejection;
 use refusal::Outcome;
 use refusal::Refusal;
-use uniform_int::Reading;
 use xoshiro256plusplus::Xoshiro256PlusPlus;
 
 // The outcome, the count of indices written, the words read, and the generator after them.
@@ -36,20 +34,7 @@ pub fn refused(why: Refusal, rng: Xoshiro256PlusPlus) -> IndexSample
     }
 }
 
-// All `amount` indices are drawn.
-fn drawn(amount: u64, reading: Reading) -> IndexSample
-    ensures { λ r. ⌜ (answerOf (r .outcome) (r .count) ≡ written true amount) × (r .words ≡ reading .words) × (r .rng ≡ reading .rng) ⌝ }
-{
-    let rng = reading.rng;
-    IndexSample {
-        outcome: Outcome::Done,
-        count: amount,
-        words: reading.words,
-        rng: rng,
-    }
-}
-
-// What rejection has found; where that is not all, the budget was used up.
+// What a method has found; where that is not all, the budget was used up.
 fn found(f: FoundIndices) -> IndexSample
     ensures { λ r. ⌜ (answerOf (r .outcome) (r .count) ≡ written (f .all) (f .count)) × (r .words ≡ f .words) × (r .rng ≡ f .rng) ⌝ }
 {
@@ -73,9 +58,11 @@ fn found(f: FoundIndices) -> IndexSample
 
 // Draws `amount` distinct indices below `length`, in random order, to the front of `indices`: the definition `sampleOf`. No sample has more
 // or less than its share (`IndexShares`). Entries past the amount never change. The method is rand's choice by length and amount
-// (`choose_method`): Floyd's and the one in place read no budget; rejection, the one that could read on for ever, stops when `budget` words
-// are read, refuses with 13 and leaves what it has found at the front, with its count. In place needs `length` entries of `scratch`, and
-// leaves there all indices below `length` as it has arranged them; the other two leave `scratch` as it was.
+// (`choose_method`). In place needs `length` entries of `scratch`, and leaves there all indices below `length` as it has arranged them; the other
+// two leave `scratch` as it was.
+// Every method heeds the budget: where a word is needed and `budget` words are read, the call is refused with 13. Floyd's method then leaves what
+// its finished draws give, replacements made, and its count is theirs. Rejection leaves what it has found, with its count. In place has written no
+// index, so its count is 0; `scratch` holds all indices below `length` as the finished exchanges have arranged them. An amount of 0 needs no word.
 // Any other refusal reads no word and changes nothing: 12 for an all-zero generator, 10 for a length above 2^32 - 1, 1 for an amount above
 // the length, 8 for fewer entries of `indices` than the amount, 9 for a scratch slice that is too short, the first of these that applies.
 // Cost: amount^2 for Floyd (amounts to 162), the length in place, the amount for rejection to some
@@ -104,14 +91,19 @@ pub fn sample(
     }
     let n = length as u32;
     let k = amount as u32;
+    // A call that is not compiled in has its generator copied to memory: so it is copied where such a call is due.
     match choose_method(n, k) {
-        Method::Floyd => drawn(amount, sample_floyd(rng, n, k, indices)),
+        Method::Floyd => found(sample_floyd(rng, n, k, budget, indices)),
         Method::InPlace => {
             if (scratch.len() as u64) < length {
                 return refused(Refusal::ScratchTooShort, rng);
             }
-            drawn(amount, sample_inplace(rng, n, k, indices, scratch))
+            let start = rng;
+            found(sample_inplace(start, n, k, budget, indices, scratch))
         }
-        Method::Rejection => found(sample_rejection(rng, n, k, budget, indices)),
+        Method::Rejection => {
+            let start = rng;
+            found(sample_rejection(start, n, k, budget, indices))
+        }
     }
 }

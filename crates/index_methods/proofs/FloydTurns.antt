@@ -1,24 +1,29 @@
 -- Floyd's method, one draw at a time: the search of the indices found, and the loop over the draws.
 -- Assumes nothing.
 use mathlib.Core.Path.{_≡_, refl, sym, ap, ap₂, _∙_}
+use mathlib.Core.Bool.{Bool, true, false}
 use mathlib.Core.List.{List, [], _∷_, _++_, append-assoc}
-use Prim.Native.Nat.{ℕ, zero, suc, _+_, _-_, _*_, _≤_, _<_}
-use native.Mathlib.Nat.{zero-add, add-zero, le-of-suc-le-suc, not-suc-le-zero}
+use Prim.Native.Nat.{ℕ, zero, suc, _+_, _-_, _≤_, _<_}
+use native.Mathlib.Nat.{add-zero, le-of-suc-le-suc, not-suc-le-zero}
 use native.Mathlib.Numerals.{add-one}
 use native.Mathlib.Omega.{arith}
-use lib.ListN.{length, take, drop, getD, set, length-set, length-append, length-drop, take-append-drop}
-use lib.Seq.{length-take-le, take-at, drop-at, drop-drop, set-split, take-set-lt, drop-set-lt}
+use lib.ListN.{length, take, drop, getD, set, length-set, length-append, length-drop}
+use lib.Seq.{take-at, drop-at, drop-drop, set-split, take-set-lt, drop-set-lt}
 use borrow.Author.Tests.{eq-eqb, ne-eqb}
 use Rattle.xoshiro256plusplus.specs.declared.Xoshiro256PlusPlus.{Xoshiro256PlusPlus}
-use Rattle.uniform_int.specs.Bounded.{bounded}
-use Rattle.uniform_int.specs.Draws.{Draws, draws, before}
-use Rattle.uniform_int.proofs.Laws.{words-le, draws-nil, draws-rising}
+use Rattle.uniform_int.specs.Rejecting.{shown}
+use Rattle.uniform_int.specs.Within.{boundedWithin}
+use Rattle.uniform_int.specs.Draws.{draws}
+use Rattle.uniform_int.specs.declared.Sampled.{Sampled}
+use Rattle.uniform_int.specs.declared.Draw.the-variants.{Value, Spent}
+use Rattle.uniform_int.proofs.InTurn.{InTurn}
+use Rattle.uniform_int.proofs.InTurn as in-turn
 use Rattle.counting.specs.Bounds.{rising}
+use Rattle.counting.proofs.Rising.{rising-next}
 use Rattle.index_methods.specs.Floyd.{replaced, floydFrom, floydOf, floydBounds}
 use Rattle.index_methods.specs.Methods.{FloydSample}
 use Rattle.index_methods.specs.declared.floyd.Position.{Position}
 use Rattle.index_methods.specs.declared.floyd.Position.the-variants.{At, Nowhere}
-use Rattle.uniform_int.specs.declared.Reading.{Reading}
 use Rattle.index_methods.proofs.Replaced.{hit, miss, length-replaced}
 
 -- ---- the search
@@ -74,72 +79,100 @@ module _ (t j : ℕ) where
       set-split l′ n t (omega (arith, r .long))
       ∙ ap₂ (λ (a b : List ℕ). a ++ t ∷ b) (r .held) (ap (λ (m : ℕ). drop m l′) (sym (add-one n)) ∙ r .rest)
 
+-- ---- one draw more
+
+floyd-next : (j : ℕ) (held vs : List ℕ) (t : ℕ) → floydFrom j held (vs ++ (t ∷ [])) ≡ replaced t (j + length vs) (floydFrom j held vs) ++ (t ∷ [])
+unfolding floydFrom
+floyd-next j held [] t = ap (λ (m : ℕ). replaced t m held ++ (t ∷ [])) (sym (add-zero j))
+floyd-next j held (v ∷ vs) t =
+    let on : suc j + length vs ≡ j + suc (length vs) = omega arith in
+    floyd-next (suc j) (replaced v j held ++ (v ∷ [])) vs t
+    ∙ ap (λ (m : ℕ). replaced t m (floydFrom (suc j) (replaced v j held ++ (v ∷ [])) vs) ++ (t ∷ [])) on
+
+length-floyd : (j : ℕ) (held vs : List ℕ) → length (floydFrom j held vs) ≡ length held + length vs
+unfolding floydFrom
+length-floyd j held [] = sym (add-zero (length held))
+length-floyd j held (v ∷ vs) =
+    omega (arith, length-floyd (suc j) (replaced v j held ++ (v ∷ [])) vs, length-append (replaced v j held) (v ∷ []), length-replaced v j held)
+
+pub length-sample : (n amount : ℕ) (vs : List ℕ) → length (floydOf n amount vs) ≡ length vs
+unfolding floydOf
+length-sample n amount vs = omega (arith, length-floyd (n - amount) [] vs)
+
+-- a front of k entries over l
+length-over : (front l : List ℕ) (k : ℕ) → length front ≡ k → k ≤ length l → length (front ++ drop k l) ≡ length l
+length-over front l k e h = omega (arith, length-append front (drop k l), length-drop k l)
+
+-- and what `place` makes of it
+placed : (t j k : ℕ) (front l₀ l l′ : List ℕ) → length front ≡ k → l ≡ front ++ drop k l₀ → l′ ≡ replaced t j (take k l) ++ (t ∷ drop (k + 1) l)
+    → l′ ≡ (replaced t j front ++ (t ∷ [])) ++ drop (k + 1) l₀
+placed t j k front l₀ l l′ size held put =
+    let first : take k l ≡ front = rw held (take-at front (drop k l₀) k size) in
+    let later : drop k l ≡ drop k l₀ = rw held (drop-at front (drop k l₀) k size) in
+    let rest : drop (k + 1) l ≡ drop (k + 1) l₀ = sym (drop-drop 1 k l) ∙ ap (drop 1) later ∙ drop-drop 1 k l₀ in
+    put
+    ∙ ap₂ (λ (a b : List ℕ). replaced t j a ++ (t ∷ b)) first rest
+    ∙ sym (append-assoc (replaced t j front) (t ∷ []) (drop (k + 1) l₀))
+
 -- ---- the loop
 
--- before the turn at j, from the list l₀ and the generator g₀ on: what is left to do gives the whole
-pub record Turn (start amount end : ℕ) (g₀ : Xoshiro256PlusPlus) (l₀ : List ℕ) (g : Xoshiro256PlusPlus) (l : List ℕ) (words j : ℕ) : Type 0 where
-  pub from : start ≤ j
-  pub upto : j ≤ end
-  pub few : words ≤ 2 * (j - start)
+-- Before the draw at j, from the list l₀ and the generator g₀ on: the draws of `values` are finished, and what they give stands at the front of l.
+pub record Turn (budget n amount : ℕ) (g₀ : Xoshiro256PlusPlus) (l₀ : List ℕ) (g : Xoshiro256PlusPlus) (l : List ℕ) (words j : ℕ) : Type 0 where
+  pub values : List ℕ
+  pub here : j ≡ n - amount + length values
+  pub upto : j ≤ n
   pub long : length l ≡ length l₀
-  pub held : floydFrom j (take (j - start) l) (draws (rising j (end - j)) g .values) ≡ floydFrom start [] (draws (rising start amount) g₀ .values)
-  pub rest : drop (j - start) l ≡ drop (j - start) l₀
-  pub read : words + draws (rising j (end - j)) g .words ≡ draws (rising start amount) g₀ .words
-  pub after : draws (rising j (end - j)) g .rng ≡ draws (rising start amount) g₀ .rng
+  pub held : l ≡ floydOf n amount values ++ drop (length values) l₀
+  pub drawn : InTurn budget (floydBounds n amount) g₀ values (rising j (n - j)) g words
 
-module _ (start amount end : ℕ) (sum : start + amount ≡ end) (g₀ : Xoshiro256PlusPlus) (l₀ : List ℕ) (room : amount ≤ length l₀) where
-  pub begin : Turn start amount end g₀ l₀ g₀ l₀ 0 start
+module _ (budget n amount : ℕ) (le : amount ≤ n) (g₀ : Xoshiro256PlusPlus) (l₀ : List ℕ) (room : amount ≤ length l₀) where
+  pub begin : Turn budget n amount g₀ l₀ g₀ l₀ 0 (n - amount)
+  unfolding floydFrom floydOf floydBounds
   begin =
-      let n : end - start ≡ amount = omega arith in
-      let z : start - start ≡ 0 = omega arith in
-      record {
-        from = omega arith;
-        upto = omega arith;
-        few = omega arith;
-        long = refl;
-        held = rw (n, z);
-        rest = refl;
-        read = rw (n, zero-add);
-        after = rw n;
-      }
+      let m : n - (n - amount) ≡ amount = omega arith in
+      record { values = []; here = omega arith; upto = omega arith; long = refl; held = refl; drawn = rw m (in-turn.begin budget (floydBounds n amount) g₀) }
 
-  module _ (g : Xoshiro256PlusPlus) (l : List ℕ) (words j : ℕ) (s : Turn start amount end g₀ l₀ g l words j) where
-    pub turn : j < end → (l′ : List ℕ)
-        → l′ ≡ replaced (bounded (j + 1) g .value) j (take (j - start) l) ++ (bounded (j + 1) g .value ∷ drop (j - start + 1) l)
-        → Turn start amount end g₀ l₀ (bounded (j + 1) g .rng) l′ (words + bounded (j + 1) g .words) (j + 1)
-    unfolding floydFrom
-    turn h l′ el =
-        let t : ℕ = bounded (j + 1) g .value in
-        let later : Draws = draws (rising (j + 1) (end - (j + 1))) (bounded (j + 1) g .rng) in
-        let front : List ℕ = replaced t j (take (j - start) l) ++ (t ∷ []) in
-        let i : j + 1 - start ≡ j - start + 1 = omega (arith, s .from) in
-        let full : length (take (j - start) l) ≡ j - start = length-take-le (j - start) l (omega (arith, s .from, s .long)) in
-        let here : length front ≡ j - start + 1 = omega (arith, length-append (replaced t j (take (j - start) l)) (t ∷ []), length-replaced t j (take (j - start) l)) in
-        let parts : l′ ≡ front ++ drop (j - start + 1) l = el ∙ sym (append-assoc (replaced t j (take (j - start) l)) (t ∷ []) (drop (j - start + 1) l)) in
-        let held′ : take (j - start + 1) l′ ≡ front = rw parts (take-at front (drop (j - start + 1) l) (j - start + 1) here) in
-        let rest′ : drop (j - start + 1) l′ ≡ drop (j - start + 1) l = rw parts (drop-at front (drop (j - start + 1) l) (j - start + 1) here) in
-        let one = draws-rising j end g h in
-        let drawn : floydFrom j (take (j - start) l) (draws (rising j (end - j)) g .values) ≡ floydFrom (j + 1) front (later .values) =
-        ap (λ (d : Draws). floydFrom j (take (j - start) l) (d .values)) one ∙ ap (λ (m : ℕ). floydFrom m front (later .values)) (sym (add-one j)) in
-        record {
-          from = omega (arith, s .from);
-          upto = omega arith;
-          few = omega (arith, s .few, s .from, words-le (j + 1) g);
-          long = omega (arith, ap length parts, length-append front (drop (j - start + 1) l), length-drop (j - start + 1) l, s .long, s .from);
-          held = rw (i, held′) (sym drawn ∙ s .held);
-          rest = rw (i, rest′) (sym (drop-drop 1 (j - start) l) ∙ ap (drop 1) (s .rest) ∙ drop-drop 1 (j - start) l₀);
-          read = omega (arith, s .read, ap (λ (d : Draws). d .words) one);
-          after = sym (ap (λ (d : Draws). d .rng) one) ∙ s .after;
-        }
+  module _ (g : Xoshiro256PlusPlus) (l : List ℕ) (words j : ℕ) (s : Turn budget n amount g₀ l₀ g l words j) where
+    -- what the finished draws leave is what is promised
+    report : (count : ℕ) (all : Bool) (k : ℕ) (h : Xoshiro256PlusPlus) → count ≡ length (s .values)
+        → draws budget (floydBounds n amount) g₀ ≡ record { values = s .values; all = all; words = k; rng = h }
+        → FloydSample n amount (draws budget (floydBounds n amount) g₀) l₀ l (record { count = count; all = all; words = k; rng = h })
+    report count all k h size e = rw e (record { indices = s .held; count = size; all = refl; words = refl; rng = refl })
 
-    -- after the last turn
-    pub finish : end ≤ j
-        → (l ≡ floydFrom start [] (draws (rising start amount) g₀ .values) ++ drop amount l₀)
-        × (words ≡ draws (rising start amount) g₀ .words) × (g ≡ draws (rising start amount) g₀ .rng)
-    unfolding rising draws floydFrom
+    pub finish : n ≤ j → FloydSample n amount (draws budget (floydBounds n amount) g₀) l₀ l (record { count = amount; all = true; words = words; rng = g })
+    unfolding rising
     finish h =
-        let n : end - j ≡ 0 = omega arith in
-        let i : j - start ≡ amount = omega (arith, s .from, s .upto) in
-        let held = rw (n, i) at (s .held) in
-        let rest = rw i at (s .rest) in
-        (sym (take-append-drop amount l) ∙ ap₂ (λ (a b : List ℕ). a ++ b) held rest, sym (add-zero words) ∙ rw n at (s .read), rw n at (s .after))
+        let z : n - j ≡ 0 = omega arith in
+        report amount true words g (omega (arith, s .here, s .upto)) (in-turn.finish budget (floydBounds n amount) g₀ (s .values) g words (rw z at (s .drawn)))
+
+    module _ (more : j < n) (x : Sampled) (e : shown x ≡ boundedWithin (j + 1) (budget - words) g words) where
+      -- the draw at j, and those behind it
+      at-j : InTurn budget (floydBounds n amount) g₀ (s .values) ((j + 1) ∷ rising (j + 1) (n - (j + 1))) g words
+      at-j = rw (rising-next j n more) at (s .drawn)
+
+      pub stop : x .draw ≡ Spent
+          → FloydSample n amount (draws budget (floydBounds n amount) g₀) l₀ l (record { count = j - (n - amount); all = false; words = x .words; rng = x .rng })
+      stop d =
+          report (j - (n - amount)) false (x .words) (x .rng) (omega (arith, s .here))
+          (in-turn.stop budget (floydBounds n amount) g₀ (s .values) g words (j + 1) (rising (j + 1) (n - (j + 1))) x e at-j d)
+
+      pub turn : (t : ℕ) → x .draw ≡ Value t → (l′ : List ℕ) → l′ ≡ replaced t j (take (j - (n - amount)) l) ++ (t ∷ drop (j - (n - amount) + 1) l)
+          → Turn budget n amount g₀ l₀ (x .rng) l′ (x .words) (j + 1)
+      unfolding floydOf
+      turn t d l′ put =
+          let vs : List ℕ = s .values in
+          let longer : List ℕ = vs ++ (t ∷ []) in
+          let k : j - (n - amount) ≡ length vs = omega (arith, s .here) in
+          let one : length longer ≡ length vs + 1 = length-append vs (t ∷ []) in
+          let next : floydFrom (n - amount) [] longer ≡ replaced t j (floydOf n amount vs) ++ (t ∷ []) =
+          floyd-next (n - amount) [] vs t ∙ ap (λ (m : ℕ). replaced t m (floydOf n amount vs) ++ (t ∷ [])) (sym (s .here)) in
+          let held′ : l′ ≡ floydFrom (n - amount) [] longer ++ drop (length longer) l₀ =
+          rw (next, one) (placed t j (length vs) (floydOf n amount vs) l₀ l l′ (length-sample n amount vs) (s .held) (rw k at put)) in
+          record {
+            values = longer;
+            here = omega (arith, s .here, one);
+            upto = omega arith;
+            long = ap length held′ ∙ length-over (floydOf n amount longer) l₀ (length longer) (length-sample n amount longer) (omega (arith, s .here, one));
+            held = held′;
+            drawn = in-turn.next budget (floydBounds n amount) g₀ vs g words (j + 1) (rising (j + 1) (n - (j + 1))) x e at-j t d;
+          }

@@ -3,9 +3,11 @@ ghost use mathlib.Core.List.{_++_, _∷_, []};
 ghost use mathlib.Core.Path.{_≡_};
 ghost use Prim.Native.Nat.{_+_, _≤_, _<_};
 ghost use lib.ListN.{length, take, drop};
-ghost use Rattle.index_methods.specs.Floyd.{replaced};
+ghost use Rattle.uniform_int.specs.Draws.{draws};
+ghost use Rattle.index_methods.specs.Floyd.{replaced, floydBounds};
 ghost use Rattle.index_methods.specs.Methods.{FloydSample};
-use uniform_int::Reading;
+use super::FoundIndices;
+use uniform_int::Draw;
 use uniform_int::random_range;
 use xoshiro256plusplus::Xoshiro256PlusPlus;
 
@@ -36,29 +38,43 @@ fn place(indices: &mut [u32], count: usize, t: u32, j: u32)
     indices[count] = t;
 }
 
-// Puts a sample of `amount` indices below `length` at the front of `indices`. The values drawn can be inferred from it by working
-// backwards from the last entry, so each sample comes from one list of draws: `floyd` of `IndexShares`. The definition is `floydOf`.
+// Puts a sample of `amount` indices below `length` at the front of `indices`; where the budget ends first, what the finished draws give, each with its
+// replacement. The values drawn can be inferred from the sample by working backwards from the last entry, so each sample comes from one list of
+// draws: `floyd` of `IndexShares`. The definition is `floydOf`.
 pub fn sample_floyd(
     rng: Xoshiro256PlusPlus,
     length: u32,
     amount: u32,
+    budget: u64,
     indices: &mut [u32],
-) -> Reading
+) -> FoundIndices
     requires { ⌜ (amount ≤ length) × (amount ≤ lib.ListN.length (now indices)) ⌝ }
-    ensures { λ r. ⌜ FloydSample length amount rng (now (indices .entry)) (now (indices .exit)) r ⌝ }
+    ensures { λ r. ⌜ FloydSample length amount (draws budget (floydBounds length amount) rng) (now (indices .entry)) (now (indices .exit)) r ⌝ }
 {
     let mut state = rng;
     let mut words: u64 = 0;
     let start = length - amount;
     for j in start..length {
-        let d = random_range(state, j + 1);
-        let next = d.rng;
+        let s = random_range(state, j + 1, words, budget);
+        let next = s.rng;
         state = next;
-        words += d.words;
-        let count = (j - start) as usize;
-        place(indices, count, d.value, j);
+        words = s.words;
+        let count = j - start;
+        let draw = s.draw;
+        let Draw::Value(t) = draw else {
+            return FoundIndices {
+                count: count,
+                all: false,
+                words: words,
+                rng: state,
+            };
+        };
+        let at = count as usize;
+        place(indices, at, t, j);
     }
-    Reading {
+    FoundIndices {
+        count: amount,
+        all: true,
         words: words,
         rng: state,
     }

@@ -6,18 +6,11 @@ ghost use lib.ListN.{length};
 ghost use Rattle.index_methods.specs.Rejection.{foundOf};
 ghost use Rattle.index_methods.specs.Methods.{RejectionSample};
 ghost use Rattle.index_methods.specs.Seen.{Asked};
+use super::FoundIndices;
 use super::seen::is_new;
 use uniform_int::Draw;
 use uniform_int::UniformInt;
 use xoshiro256plusplus::Xoshiro256PlusPlus;
-
-// What is found: how many indices, whether that is all that were wanted, the words read, and the generator after them.
-pub struct FoundIndices {
-    pub count: u32,
-    pub all: bool,
-    pub words: u64,
-    pub rng: Xoshiro256PlusPlus,
-}
 
 // Draws until `amount` indices are at the front of `indices` or the budget is used up. `seen` is a filter that has seen nothing.
 fn find_all(

@@ -2,20 +2,23 @@
 -- Assumes nothing.
 use mathlib.Core.Path.{_≡_, refl, sym, ap, ap₂, _∙_}
 use mathlib.Core.Bool.{Bool, true, false}
-use mathlib.Core.List.{List, _++_}
-use Prim.Native.Nat.{ℕ, suc, _+_, _-_, _*_, _≤_, _<_, min}
-use native.Mathlib.Nat.{zero-add, add-zero}
-use native.Mathlib.Numerals.{add-one}
+use mathlib.Core.List.{List, [], _∷_, _++_}
+use Prim.Native.Nat.{ℕ, _+_, _-_, _≤_, _<_, min}
 use native.Mathlib.Omega.{arith}
 use lib.Dec.{leb}
 use lib.ListN.{length, take, drop, getD, set, length-append, length-take, length-drop, length-set, drop-of-length-le}
-use lib.Seq.{take-all, take-length, drop-length, drop-cons, set-out}
+use lib.Seq.{take-all, take-length, drop-length, getD-drop, set-out}
 use borrow.Author.Tests.{leb-true, leb-false}
 use Rattle.counting.specs.Bounds.{rising}
+use Rattle.counting.proofs.Rising.{rising-next}
 use Rattle.xoshiro256plusplus.specs.declared.Xoshiro256PlusPlus.{Xoshiro256PlusPlus}
-use Rattle.uniform_int.specs.Bounded.{bounded}
-use Rattle.uniform_int.specs.Draws.{Draws, draws, before}
-use Rattle.uniform_int.proofs.Laws.{words-le, draws-rising}
+use Rattle.uniform_int.specs.Rejecting.{shown}
+use Rattle.uniform_int.specs.Within.{boundedWithin}
+use Rattle.uniform_int.specs.Draws.{Draws, draws}
+use Rattle.uniform_int.specs.declared.Sampled.{Sampled}
+use Rattle.uniform_int.specs.declared.Draw.the-variants.{Value, Spent}
+use Rattle.uniform_int.proofs.InTurn.{InTurn}
+use Rattle.uniform_int.proofs.InTurn as in-turn
 use Rattle.iterator.specs.Reservoir.{fillFront, fillFrom, fillBounds}
 use Rattle.iterator.specs.Fill.{Replaced}
 
@@ -43,59 +46,85 @@ front-length items l =
 
 -- ---- the items past them
 
--- the draw for the item at p, and the draws for those after it
-one-draw : (p n : ℕ) (g : Xoshiro256PlusPlus) → p < n
-    → draws (fillBounds p n) g ≡ before (bounded (p + 1) g .value) (bounded (p + 1) g .words) (draws (fillBounds (p + 1) n) (bounded (p + 1) g .rng))
-unfolding fillBounds
-one-draw p n g h = draws-rising p n g h
+fill-none : (buf xs : List ℕ) → fillFrom buf xs [] ≡ buf
+unfolding fillFrom
+fill-none buf [] = refl
+fill-none buf (x ∷ xs) = refl
 
--- before the item at p, from the buffer l₀ and the generator g₀ on: what is left to do gives the whole
-pub record Turn (items : List ℕ) (g₀ : Xoshiro256PlusPlus) (l₀ : List ℕ) (g : Xoshiro256PlusPlus) (l : List ℕ) (words p : ℕ) : Type 0 where
-  pub from : length l₀ ≤ p
-  pub few : words ≤ 2 * (p - length l₀)
+-- one draw more, at the end
+fill-snoc : (buf xs vs : List ℕ) (k : ℕ) → length vs < length xs → fillFrom buf xs (vs ++ (k ∷ [])) ≡ set (fillFrom buf xs vs) k (getD xs (length vs) 0)
+unfolding fillFrom
+fill-snoc buf [] vs k h = absurd (omega arith)
+fill-snoc buf (x ∷ xs) [] k h = fill-none (set buf k x) xs
+fill-snoc buf (x ∷ xs) (v ∷ vs) k h = fill-snoc (set buf v x) xs vs k (omega arith)
+
+-- before the item at p, from the buffer l₀ and the generator g₀ on: the draws made, and what they have replaced
+pub record Turn (budget : ℕ) (items : List ℕ) (g₀ : Xoshiro256PlusPlus) (l₀ : List ℕ) (g : Xoshiro256PlusPlus) (l : List ℕ) (words p : ℕ) : Type 0 where
+  pub made : List ℕ
+  pub number : length l₀ + length made ≡ p
   pub long : length l ≡ length l₀
-  pub held : fillFrom l (drop p items) (draws (fillBounds p (length items)) g .values)
-      ≡ fillFrom l₀ (drop (length l₀) items) (draws (fillBounds (length l₀) (length items)) g₀ .values)
-  pub read : words + draws (fillBounds p (length items)) g .words ≡ draws (fillBounds (length l₀) (length items)) g₀ .words
-  pub after : draws (fillBounds p (length items)) g .rng ≡ draws (fillBounds (length l₀) (length items)) g₀ .rng
+  pub held : l ≡ fillFrom l₀ (drop (length l₀) items) made
+  pub drawn : InTurn budget (fillBounds (length l₀) (length items)) g₀ made (fillBounds p (length items)) g words
 
-module _ (items : List ℕ) (g₀ : Xoshiro256PlusPlus) (l₀ : List ℕ) where
-  pub begin : Turn items g₀ l₀ g₀ l₀ 0 (length l₀)
-  begin = record { from = omega arith; few = omega arith; long = refl; held = refl; read = zero-add _; after = refl }
+module _ (budget : ℕ) (items : List ℕ) (g₀ : Xoshiro256PlusPlus) (l₀ : List ℕ) where
+  -- the draws of the call
+  abbrev all-drawn : Draws
+  all-drawn = draws budget (fillBounds (length l₀) (length items)) g₀
 
-  module _ (g : Xoshiro256PlusPlus) (l : List ℕ) (words p : ℕ) (s : Turn items g₀ l₀ g l words p) where
-    -- the item replaces the slot drawn
-    pub turn : p < length items
-        → Turn items g₀ l₀ (bounded (p + 1) g .rng) (set l (bounded (p + 1) g .value) (getD items p 0)) (words + bounded (p + 1) g .words) (p + 1)
-    unfolding fillFrom
-    turn h =
-        let k : ℕ = bounded (p + 1) g .value in
-        let later : Draws = draws (fillBounds (p + 1) (length items)) (bounded (p + 1) g .rng) in
-        let one = one-draw p (length items) g h in
-        let drawn : fillFrom l (drop p items) (draws (fillBounds p (length items)) g .values) ≡ fillFrom (set l k (getD items p 0)) (drop (p + 1) items) (later .values) =
-        ap₂ (λ (xs : List ℕ) (d : Draws). fillFrom l xs (d .values)) (drop-cons items p 0 h) one
-        ∙ ap (λ (q : ℕ). fillFrom (set l k (getD items p 0)) (drop q items) (later .values)) (sym (add-one p)) in
-        record {
-          from = omega (arith, s .from);
-          few = omega (arith, s .from, s .few, words-le (p + 1) g);
-          long = length-set l k (getD items p 0) ∙ s .long;
-          held = sym drawn ∙ s .held;
-          read = omega (arith, s .read, ap (λ (d : Draws). d .words) one);
-          after = sym (ap (λ (d : Draws). d .rng) one) ∙ s .after;
-        }
+  pub begin : Turn budget items g₀ l₀ g₀ l₀ 0 (length l₀)
+  begin =
+      record {
+        made = [];
+        number = omega arith;
+        long = refl;
+        held = sym (fill-none l₀ (drop (length l₀) items));
+        drawn = in-turn.begin budget (fillBounds (length l₀) (length items)) g₀;
+      }
 
-    -- a draw that is no slot changes none
-    pub turn-out : p < length items → length l₀ ≤ bounded (p + 1) g .value
-        → Turn items g₀ l₀ (bounded (p + 1) g .rng) l (words + bounded (p + 1) g .words) (p + 1)
-    turn-out h out = rw (set-out l (bounded (p + 1) g .value) (getD items p 0) (omega (arith, s .long))) at (turn h)
+  -- no draw is made any more
+  ends : (vs l : List ℕ) (all : Bool) (words : ℕ) (g : Xoshiro256PlusPlus) → l ≡ fillFrom l₀ (drop (length l₀) items) vs
+      → all-drawn ≡ record { values = vs; all = all; words = words; rng = g } → Replaced items all-drawn l₀ l (record { all = all; words = words; rng = g })
+  ends vs l all words g held e =
+      record {
+        buf = held ∙ ap (λ (d : Draws). fillFrom l₀ (drop (length l₀) items) (d .values)) (sym e);
+        all = ap (λ (d : Draws). d .all) (sym e);
+        words = ap (λ (d : Draws). d .words) (sym e);
+        rng = ap (λ (d : Draws). d .rng) (sym e);
+      }
 
-    pub finish : length items ≤ p → Replaced items g₀ l₀ l (record { words = words; rng = g })
-    unfolding fillBounds rising draws fillFrom
+  module _ (g : Xoshiro256PlusPlus) (l : List ℕ) (words p : ℕ) (t : Turn budget items g₀ l₀ g l words p) where
+    pub finish : length items ≤ p → Replaced items all-drawn l₀ l (record { all = true; words = words; rng = g })
+    unfolding fillBounds rising
     finish h =
-        let e : length items - p ≡ 0 = omega arith in
-        let none = drop-of-length-le items h in
-        record {
-          buf = rw (e, none) at (s .held);
-          words = sym (add-zero words) ∙ rw e at (s .read);
-          rng = rw e at (s .after);
-        }
+        let none-left : length items - p ≡ 0 = omega arith in
+        ends (t .made) l true words g (t .held)
+        (in-turn.finish budget (fillBounds (length l₀) (length items)) g₀ (t .made) g words (rw none-left at (t .drawn)))
+
+    module _ (h : p < length items) (s : Sampled) (e : shown s ≡ boundedWithin (p + 1) (budget - words) g words) where
+      -- the bound of the draw for the item at p comes first
+      next-bound : InTurn budget (fillBounds (length l₀) (length items)) g₀ (t .made) ((p + 1) ∷ fillBounds (p + 1) (length items)) g words
+      unfolding fillBounds
+      next-bound = rw (rising-next p (length items) h) at (t .drawn)
+
+      -- the item replaces the slot drawn
+      pub turn : (k : ℕ) → s .draw ≡ Value k → Turn budget items g₀ l₀ (s .rng) (set l k (getD items p 0)) (s .words) (p + 1)
+      turn k d =
+          let here : length (t .made) < length (drop (length l₀) items) = omega (arith, t .number, length-drop (length l₀) items) in
+          let item : getD (drop (length l₀) items) (length (t .made)) 0 ≡ getD items p 0 = getD-drop (length l₀) items (length (t .made)) 0 ∙ ap (λ (j : ℕ). getD items j 0) (t .number) in
+          record {
+            made = t .made ++ (k ∷ []);
+            number = omega (arith, t .number, length-append (t .made) (k ∷ []));
+            long = length-set l k (getD items p 0) ∙ t .long;
+            held = ap₂ (λ (b : List ℕ) (x : ℕ). set b k x) (t .held) (sym item) ∙ sym (fill-snoc l₀ (drop (length l₀) items) (t .made) k here);
+            drawn = in-turn.next budget (fillBounds (length l₀) (length items)) g₀ (t .made) g words (p + 1) (fillBounds (p + 1) (length items)) s e next-bound k d;
+          }
+
+      -- a draw that is no slot changes none
+      pub turn-out : (k : ℕ) → s .draw ≡ Value k → length l₀ ≤ k → Turn budget items g₀ l₀ (s .rng) l (s .words) (p + 1)
+      turn-out k d out = rw (set-out l k (getD items p 0) (omega (arith, t .long))) at (turn k d)
+
+      -- the draw is not finished
+      pub stop : s .draw ≡ Spent → Replaced items all-drawn l₀ l (record { all = false; words = s .words; rng = s .rng })
+      stop d =
+          ends (t .made) l false (s .words) (s .rng) (t .held)
+          (in-turn.stop budget (fillBounds (length l₀) (length items)) g₀ (t .made) g words (p + 1) (fillBounds (p + 1) (length items)) s e next-bound d)

@@ -45,11 +45,11 @@ module _ (k : ℕ) where
   unfolding callAt calls
   sizes-5 e ns = ap (λ (j : ℕ). callAt j .sizes ns) e
 
-  pub sizes-6 : k ≡ 6 → (ns : List ℕ) → callAt k .sizes ns ≡ exactly 2 ns (entries (at ns 0) 0 0 0)
+  pub sizes-6 : k ≡ 6 → (ns : List ℕ) → callAt k .sizes ns ≡ exactly 3 ns (entries (at ns 0) 0 0 0)
   unfolding callAt calls
   sizes-6 e ns = ap (λ (j : ℕ). callAt j .sizes ns) e
 
-  pub sizes-7 : k ≡ 7 → (ns : List ℕ) → callAt k .sizes ns ≡ exactly 1 ns (entries (at ns 0) 0 0 0)
+  pub sizes-7 : k ≡ 7 → (ns : List ℕ) → callAt k .sizes ns ≡ exactly 2 ns (entries (at ns 0) 0 0 0)
   unfolding callAt calls
   sizes-7 e ns = ap (λ (j : ℕ). callAt j .sizes ns) e
 
@@ -61,7 +61,7 @@ module _ (k : ℕ) where
   unfolding callAt calls
   sizes-9 e ns = ap (λ (j : ℕ). callAt j .sizes ns) e
 
-  pub sizes-10 : k ≡ 10 → (ns : List ℕ) → callAt k .sizes ns ≡ exactly 2 ns (entries (at ns 1) (at ns 0) 0 0)
+  pub sizes-10 : k ≡ 10 → (ns : List ℕ) → callAt k .sizes ns ≡ exactly 3 ns (entries (at ns 1) (at ns 0) 0 0)
   unfolding callAt calls
   sizes-10 e ns = ap (λ (j : ℕ). callAt j .sizes ns) e
 

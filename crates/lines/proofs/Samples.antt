@@ -71,14 +71,14 @@ sample-told g ns last work a b n amount budget number end d₁ d₂ s r e₁ e�
     tell number (s .words) d₂ end (s .rng) last _ r is (clipped-lies (s .count) end last clip)
     (told-sample number end d₂ s last work d₁ num clip f₁ f₂ ∙ ap sampleTold (rw (← e₁, ← e₂, ← e₃) call))
 
-pub fill-told : (g : Xoshiro256PlusPlus) (last : List ℕ) (a b number end d₁ : ℕ) (s : Filled) (r : Reply)
-    → Fill.ended s last ≡ Fill.sampleFillOf g (progression 0 1 b) (progression 4294967295 0 a)
+pub fill-told : (g : Xoshiro256PlusPlus) (ns last : List ℕ) (a b budget number end d₁ : ℕ) (s : Filled) (r : Reply) → budget ≡ at ns 2
+    → Fill.ended s last ≡ Fill.sampleFillOf budget g (progression 0 1 b) (progression 4294967295 0 a)
     → number ≡ answerOf (s .outcome) 0 .number → end ≡ min (s .count) (length last) → d₁ ≡ digestFrom 0 last
     → r ≡ record { «is_call» = true; number = number; words = s .words; rng = s .rng; digest = d₁; start = 0; end = end }
-    → (ns : List ℕ) (c d : ℕ) → Tells r last (fillMeans g ns (entries a b c d))
+    → (c d : ℕ) → Tells r last (fillMeans g ns (entries a b c d))
 unfolding fillMeans blank counted
-fill-told g last a b number end d₁ s r call num clip f is ns c d =
-    tell number (s .words) d₁ end (s .rng) last _ r is (clipped-lies (s .count) end last clip) (told-fill number end d₁ s last num clip f ∙ ap fillTold call)
+fill-told g ns last a b budget number end d₁ s r e call num clip f is c d =
+    tell number (s .words) d₁ end (s .rng) last _ r is (clipped-lies (s .count) end last clip) (told-fill number end d₁ s last num clip f ∙ ap fillTold (rw (← e) call))
 
 pub view-told : (g : Xoshiro256PlusPlus) (ns before after work : List ℕ) (b c d amount budget number d₁ : ℕ) (s : ItemsSample) (r : Reply)
     → amount ≡ at ns 1 → budget ≡ at ns 2

@@ -50,13 +50,14 @@ shuffle-told s items number start digest e f g =
 
 module _ (g : Xoshiro256PlusPlus) (ns : List ℕ) (a b c d : ℕ) (items : List ℕ) (e : items ≡ progression 0 1 a) (s : Shuffled) (slice : List ℕ) (r : Reply)
     (t : Tells r slice (some (shuffleTold (ended s slice)))) where
-  pub partial-told : (amount : ℕ) → amount ≡ getD ns 1 0 → ended s slice ≡ partialShuffleOf amount g items → Tells r slice (partialMeans g ns (entries a b c d))
+  pub partial-told : (amount budget : ℕ) → amount ≡ getD ns 1 0 → budget ≡ getD ns 2 0 → ended s slice ≡ partialShuffleOf amount budget g items
+      → Tells r slice (partialMeans g ns (entries a b c d))
   unfolding partialMeans counted
-  partial-told amount f made = rw (← f, ← e, ← made) t
+  partial-told amount budget f h made = rw (← f, ← h, ← e, ← made) t
 
-  pub whole-told : ended s slice ≡ wholeShuffleOf g items → Tells r slice (shuffleMeans g ns (entries a b c d))
+  pub whole-told : (budget : ℕ) → budget ≡ getD ns 1 0 → ended s slice ≡ wholeShuffleOf budget g items → Tells r slice (shuffleMeans g ns (entries a b c d))
   unfolding shuffleMeans counted
-  whole-told made = rw (← e, ← made) t
+  whole-told budget h made = rw (← h, ← e, ← made) t
 
 -- ---- a part of a slice
 

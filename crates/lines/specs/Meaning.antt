@@ -33,11 +33,11 @@ calls =
     ∷ call (ascii "random_range") drawSizes boundedMeans
     ∷ call (ascii "uniform_int") drawSizes rejectingMeans
     ∷ call (ascii "sample") (λ ns. exactly 5 ns (entries (at ns 3) (at ns 4) 0 0)) sampleMeans
-    ∷ call (ascii "partial_shuffle") (λ ns. exactly 2 ns (entries (at ns 0) 0 0 0)) partialMeans
-    ∷ call (ascii "shuffle") (λ ns. exactly 1 ns (entries (at ns 0) 0 0 0)) shuffleMeans
+    ∷ call (ascii "partial_shuffle") (λ ns. exactly 3 ns (entries (at ns 0) 0 0 0)) partialMeans
+    ∷ call (ascii "shuffle") (λ ns. exactly 2 ns (entries (at ns 0) 0 0 0)) shuffleMeans
     ∷ call (ascii "tail") (λ ns. exactly 2 ns (entries (at ns 0) 0 0 0)) tailMeans
     ∷ call (ascii "head") (λ ns. exactly 2 ns (entries (at ns 0) 0 0 0)) headMeans
-    ∷ call (ascii "sample_fill") (λ ns. exactly 2 ns (entries (at ns 1) (at ns 0) 0 0)) fillMeans
+    ∷ call (ascii "sample_fill") (λ ns. exactly 3 ns (entries (at ns 1) (at ns 0) 0 0)) fillMeans
     ∷ call (ascii "indexed_samples") (λ ns. exactly 5 ns (entries (at ns 3) (at ns 0) (at ns 3) (at ns 4))) viewMeans
     ∷ call (ascii "choose") choiceSizes (choiceMeans false)
     ∷ call (ascii "choose_stable") choiceSizes (choiceMeans true)

@@ -96,10 +96,10 @@ shuffleTold s =
     }
 
 unfoldable pub partialMeans : Meaning
-partialMeans g ns e = some (shuffleTold (partialShuffleOf (at ns 1) g (counted (e .a))))
+partialMeans g ns e = some (shuffleTold (partialShuffleOf (at ns 1) (at ns 2) g (counted (e .a))))
 
 unfoldable pub shuffleMeans : Meaning
-shuffleMeans g ns e = some (shuffleTold (wholeShuffleOf g (counted (e .a))))
+shuffleMeans g ns e = some (shuffleTold (wholeShuffleOf (at ns 1) g (counted (e .a))))
 
 -- a part that is lent: its digest, and its entries
 unfoldable pub partTold : Xoshiro256PlusPlus → (part : List ℕ) → Told
@@ -117,7 +117,7 @@ fillTold s =
     record { number = s .answer .number; words = s .words; rng = s .rng; digest = digestFrom 0 (s .buf); values = take (valueOr0 (s .answer)) (s .buf) }
 
 unfoldable pub fillMeans : Meaning
-fillMeans g ns e = some (fillTold (sampleFillOf g (counted (e .b)) (blank (e .a))))
+fillMeans g ns e = some (fillTold (sampleFillOf (at ns 2) g (counted (e .b)) (blank (e .a))))
 
 -- ---- choices
 

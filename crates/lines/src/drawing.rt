@@ -67,7 +67,7 @@ pub(crate) fn random_range(rng: Xoshiro256PlusPlus, n: &[u64]) -> Few
     ensures { λ r. ⌜ ((e : Entries) → Gives r (boundedMeans rng (now (n .entry)) e)) ⌝ }
 {
     let range = slices::number(n, 0) as u32;
-    drawn(uniform_int::random_range_within(rng, range, 0, slices::number(n, 1)))
+    drawn(uniform_int::random_range(rng, range, 0, slices::number(n, 1)))
 }
 
 // `uniform_int R BUDGET`

@@ -37,10 +37,10 @@ fn arrange(call: usize, rng: Xoshiro256PlusPlus, n: &[u64], a: &mut [u32], b: &m
     match call {
         5 => sampling::sample(rng, n, a, b),
         6 => sampling::partially(rng, n, a),
-        7 => sampling::wholly(rng, a),
+        7 => sampling::wholly(rng, n, a),
         8 => sampling::tail(rng, n, a),
         9 => sampling::head(rng, n, a),
-        _ => sampling::fill(rng, a, b),
+        _ => sampling::fill(rng, n, a, b),
     }
 }
 

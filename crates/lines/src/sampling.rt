@@ -1,5 +1,4 @@
 // Samples, of indices and of items, reservoirs, shuffles of the numbers 0, 1, .., and the parts of a slice.
-ghost use mathlib.Core.List.{List};
 ghost use Prim.Native.Nat.{ℕ, min, _+_, _<_, _^_};
 ghost use lib.ListN.{length};
 ghost use Rattle.lines.specs.Means.{sampleMeans, viewMeans, fillMeans, shuffleTold, partialMeans, shuffleMeans, tailMeans, headMeans};
@@ -73,13 +72,13 @@ pub(crate) fn view(
     reply::replied(outcome.number(), sampled.words, after, left, 0, s.shown)
 }
 
-// `sample_fill LENGTH AMOUNT`
-pub(crate) fn fill(rng: Xoshiro256PlusPlus, buf: &mut [u32], items: &mut [u32]) -> Reply
-    ensures { λ r. ⌜ ((ns : List ℕ) (c d : ℕ) → Tells r (now (buf .exit)) (fillMeans rng ns (entries (length (now (buf .entry))) (length (now (items .entry))) c d))) ⌝ }
+// `sample_fill LENGTH AMOUNT BUDGET`
+pub(crate) fn fill(rng: Xoshiro256PlusPlus, n: &[u64], buf: &mut [u32], items: &mut [u32]) -> Reply
+    ensures { λ r. ⌜ ((c d : ℕ) → Tells r (now (buf .exit)) (fillMeans rng (now (n .entry)) (entries (length (now (buf .entry))) (length (now (items .entry))) c d))) ⌝ }
 {
     slices::count_from(buf, 0xffff_ffff, 0);
     slices::count_from(items, 0, 1);
-    let s = iterator::sample_fill(rng, items, buf);
+    let s = iterator::sample_fill(rng, items, buf, slices::number(n, 2));
     let after = s.rng;
     let outcome = s.outcome;
     let end = clipped(s.count, buf.len());
@@ -109,21 +108,21 @@ fn shuffled(s: slice::Shuffled, items: &[u32]) -> Reply
     reply::replied(number, s.words, after, left, start, items.len())
 }
 
-// `partial_shuffle LENGTH AMOUNT`
+// `partial_shuffle LENGTH AMOUNT BUDGET`
 pub(crate) fn partially(rng: Xoshiro256PlusPlus, n: &[u64], items: &mut [u32]) -> Reply
     ensures { λ r. ⌜ ((b c d : ℕ) → Tells r (now (items .exit)) (partialMeans rng (now (n .entry)) (entries (length (now (items .entry))) b c d))) ⌝ }
 {
     slices::count_from(items, 0, 1);
-    let s = slice::partial_shuffle(rng, items, slices::number(n, 1));
+    let s = slice::partial_shuffle(rng, items, slices::number(n, 1), slices::number(n, 2));
     shuffled(s, items)
 }
 
-// `shuffle LENGTH`
-pub(crate) fn wholly(rng: Xoshiro256PlusPlus, items: &mut [u32]) -> Reply
-    ensures { λ r. ⌜ ((ns : List ℕ) (b c d : ℕ) → Tells r (now (items .exit)) (shuffleMeans rng ns (entries (length (now (items .entry))) b c d))) ⌝ }
+// `shuffle LENGTH BUDGET`
+pub(crate) fn wholly(rng: Xoshiro256PlusPlus, n: &[u64], items: &mut [u32]) -> Reply
+    ensures { λ r. ⌜ ((b c d : ℕ) → Tells r (now (items .exit)) (shuffleMeans rng (now (n .entry)) (entries (length (now (items .entry))) b c d))) ⌝ }
 {
     slices::count_from(items, 0, 1);
-    let s = slice::shuffle(rng, items);
+    let s = slice::shuffle(rng, items, slices::number(n, 1));
     shuffled(s, items)
 }
 

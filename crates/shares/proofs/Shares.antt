@@ -1,10 +1,12 @@
 -- Demand 3, proved: each field by the theorem of the crate that its definitions are from.
 -- Assumes nothing.
-use mathlib.Core.Path.{_≡_, sym, _∙_}
+use mathlib.Core.Path.{_≡_, refl, sym, ap, _∙_}
 use mathlib.Core.List.{List}
-use Prim.Native.Nat.{ℕ, _-_, _^_, _<_}
+use Prim.Native.Nat.{ℕ, zero, suc, _+_, _-_, _*_, _^_, _<_}
+use native.Mathlib.Nat.{pow-suc}
 use native.Mathlib.Omega.{arith}
 use lib.ListN.{length}
+use lib.Pow.{pow-add}
 use Rattle.counting.specs.Lists.{Distinct}
 use Rattle.uniform_int.proofs.Shares.{draw-shares-32}
 use Rattle.index_shares.proofs.Shares.{index-shares}
@@ -25,6 +27,13 @@ number amount items tail distinct ordered = shuffle-shares .shuffle (length item
 some : (amount : ℕ) (items tail : List ℕ) → Distinct items → OrderedTail (length items - amount) items tail → 0 < tailShare amount items tail
 some amount items tail distinct ordered = rw (number amount items tail distinct ordered) (shuffle-shares .some (length items - amount) (length items))
 
+-- k words are 32 * k bits
+powers : (k : ℕ) → 2 ^ (32 * k) ≡ (2 ^ 32) ^ k
+powers zero = refl
+powers (suc k) =
+    let e : 32 * suc k ≡ 32 * k + 32 = omega arith in
+    ap (λ (n : ℕ). 2 ^ n) e ∙ pow-add 2 (32 * k) 32 ∙ ap (λ (n : ℕ). n * 2 ^ 32) (powers k) ∙ sym (pow-suc (2 ^ 32) k)
+
 pub equal-shares : EqualShares
 unfolding rejectionShare
 equal-shares =
@@ -40,5 +49,7 @@ equal-shares =
       reservoir = reservoir-shares .reservoir;
       history = history-claim .history;
       pick = pick-shares-32 .share;
-      draw = draw-shares-32 .bounded;
+      draw = λ r k v hr hk hv. rw (powers k) (draw-shares-32 .bounded r k v hr hv);
+      draw-more = λ r k hr hk. rw (powers k) (draw-shares-32 .one-more r k hr);
+      draw-open = λ r k hr le hk. draw-shares-32 .left-open r k hr le hk;
     }

@@ -1,17 +1,18 @@
 -- Demand 3: no ordered sample, shuffle, reservoir or weighted pick has more or less than its share. One field for each of its sentences, in
 -- their order, over the definitions that the calls' contracts cite. A share is the number of lists of draws, or of words, that give a result:
--- `countLists p bounds` counts the lists with an entry below each bound that pass the test p, and `count` and `countPairs` count numbers and pairs.
+-- `countLists p bounds` counts the lists with an entry below each bound that pass the test p, and `count` counts numbers.
 use mathlib.Core.Path.{_≡_}
 use mathlib.Core.Logic.{_⊎_}
 use mathlib.Core.Bool.{true, false}
 use mathlib.Core.List.{List}
 use mathlib.Core.Option.{none, some}
-use Prim.Native.Nat.{ℕ, _+_, _-_, _*_, _/_, _^_, _≤_, _<_}
+use Prim.Native.Nat.{ℕ, _+_, _-_, _*_, _/_, _%_, _^_, _≤_, _<_}
+use lib.Dec.{eqb}
 use lib.ListN.{length, take, drop, getD, replicate}
-use Rattle.counting.specs.Count.{countLists, factorial}
+use Rattle.counting.specs.Count.{count, countLists, factorial}
 use Rattle.counting.specs.Lists.{same, sameSet, Distinct}
 use Rattle.xoshiro256plusplus.specs.declared.Xoshiro256PlusPlus.{Xoshiro256PlusPlus}
-use Rattle.uniform_int.specs.Shares.{boundedShare}
+use Rattle.uniform_int.specs.Shares.{boundedShare, openShare}
 use Rattle.index_methods.specs.Floyd.{floydOf, floydBounds}
 use Rattle.index_methods.specs.InPlace.{arranged, falling}
 use Rattle.index_methods.specs.Rejection.{rejectionOf, gives, foundOf, acceptedOf}
@@ -66,5 +67,10 @@ pub record EqualShares : Type 0 where
   -- After it an item of weight w on the plain list is picked by exactly w times floor (2 ^ 32 / total) of the 2 ^ 32 words.
   pub pick : (weights slice : List ℕ) (table : WeightedIndex) (sums : List ℕ) (changes : List Change) (item : ℕ) → History weights slice table sums changes
       → pickShare (2 ^ 32) table sums changes item ≡ getD (plainWeights weights changes) item 0 * (2 ^ 32 / total (plainWeights weights changes))
-  -- A bounded draw below r gives each value to floor (2 ^ 64 / r) pairs of words, or to one more.
-  pub draw : (r value : ℕ) → 0 < r → value < r → (boundedShare (2 ^ 32) r value ≡ 2 ^ 64 / r) ⊎ (boundedShare (2 ^ 32) r value ≡ 2 ^ 64 / r + 1)
+  -- For every k from 1, each value of a bounded draw below r is that of floor (2 ^ (32 * k) / r) rows of k words, or of one more,
+  pub draw : (r k value : ℕ) → 0 < r → 0 < k → value < r
+      → (boundedShare (2 ^ 32) r k value ≡ 2 ^ (32 * k) / r) ⊎ (boundedShare (2 ^ 32) r k value ≡ 2 ^ (32 * k) / r + 1)
+  -- 2 ^ (32 * k) mod r values having one more,
+  pub draw-more : (r k : ℕ) → 0 < r → 0 < k → count (λ value. eqb (boundedShare (2 ^ 32) r k value) (2 ^ (32 * k) / r + 1)) r ≡ 2 ^ (32 * k) % r
+  -- and at most r - 1 rows leave the draw reading on.
+  pub draw-open : (r k : ℕ) → 0 < r → r ≤ 2 ^ 32 → 0 < k → openShare (2 ^ 32) r k ≤ r - 1

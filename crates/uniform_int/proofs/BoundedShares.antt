@@ -1,20 +1,25 @@
--- The shares of the bounded draw.
+-- The shares of the bounded draw: a row of k words is a number of k digits.
 -- Assumes nothing.
 use mathlib.Core.Path.{_≡_, refl, sym, ap, _∙_}
-use mathlib.Core.Logic.{_⊎_, inl, inr, ⊎-elim}
+use mathlib.Core.Logic.{_⊎_, inl, inr}
 use mathlib.Core.Bool.{Bool, true, false}
-use Prim.Native.Nat.{ℕ, zero, _+_, _-_, _*_, _/_, _%_, _≤_, _<_}
-use native.Mathlib.Nat.{mul-pos, mul-comm, mul-le-mul-right, div-add-mod', mod-lt}
+use mathlib.Core.List.{List, [], _∷_}
+use Prim.Native.Nat.{ℕ, zero, suc, _+_, _-_, _*_, _/_, _%_, _^_, _≤_, _<_}
+use native.Mathlib.Nat.{zero-add, mul-comm, mul-le-mul-right, div-add-mod', mod-lt, pow-zero, pow-suc}
 use native.Mathlib.Omega.{arith}
-use lib.Dec.{leb, ltb, eqb}
-use borrow.Author.Tests.{ltb-true, ltb-false, leb-true, leb-false, eq-eqb, ne-eqb, eqb-true, eqb-false}
-use Rattle.counting.specs.Count.{oneIf, count, sum}
+use lib.Dec.{leb, eqb}
+use lib.ListN.{length, replicate}
+use borrow.Author.Tests.{leb-true, leb-false, eq-eqb, ne-eqb, eqb-true, eqb-false}
+use Rattle.counting.specs.Count.{oneIf, count, sum, countLists}
+use Rattle.counting.specs.Lists.{Below, Within}
 use Rattle.counting.proofs.Tests.{iff-bool}
-use Rattle.counting.proofs.Sums.{sum-cong, sum-const, sum-add}
-use Rattle.counting.proofs.Counts.{count-cong, count-parts, pairs-flat}
-use Rattle.uniform_int.specs.Bounded.{boundedValue}
+use Rattle.counting.proofs.Sums.{sum-cong, sum-const, sum-add, sum-blocks}
+use Rattle.counting.proofs.Counts.{count-cong, count-parts}
+use Rattle.counting.proofs.CountsOfLists.{lists-cong}
+use Rattle.uniform_int.specs.Bounded.{numberOf, boundedValue}
 use Rattle.uniform_int.specs.Shares.{boundedShare}
 use Rattle.uniform_int.proofs.Scaling.{upper-lt}
+use Rattle.uniform_int.proofs.Numbers.{power-pos}
 use Rattle.uniform_int.proofs.Multiples.{div-is, div-was, between, between-in, between-out, Least, least, multiples}
 
 -- N numbers scaled to below r: each value gets N / r of them, or one more
@@ -82,14 +87,50 @@ module _ (N r : ℕ) (hN : 0 < N) (hr : 0 < r) where
       split v (inl e) = rw (ne-eqb (share v) (N / r + 1) (λ f. omega (arith, e, f))) (omega (arith, e))
       split v (inr e) = rw (eq-eqb (share v) (N / r + 1) e) e
 
--- the pairs of words are the M * M numbers of two digits
-module _ (M r : ℕ) (hM : 0 < M) (hr : 0 < r) where
-  flat : (v : ℕ) → boundedShare M r v ≡ share (M * M) r (mul-pos hM hM) hr v
-  unfolding boundedShare boundedValue
-  flat v = pairs-flat (λ x. eqb (x * r / (M * M)) v) M M
+-- ---- rows of words
 
-  pub bounded-share : (v : ℕ) → v < r → (boundedShare M r v ≡ M * M / r) ⊎ (boundedShare M r v ≡ M * M / r + 1)
-  bounded-share v hv = rw (flat v) (flat-share (M * M) r (mul-pos hM hM) hr v hv)
+module _ (M : ℕ) (hM : 0 < M) where
+  pub row-length : (k : ℕ) (ws : List ℕ) → Within ws (replicate k M) → length ws ≡ k
+  row-length zero [] h = refl
+  row-length zero (w ∷ ws) h = absurd h
+  row-length (suc k) [] h = absurd h
+  row-length (suc k) (w ∷ ws) h = ap suc (row-length k ws (h .1))
 
-  pub bounded-one-more : count (λ v. eqb (boundedShare M r v) (M * M / r + 1)) r ≡ M * M % r
-  bounded-one-more = simp flat (flat-one-more (M * M) r (mul-pos hM hM) hr)
+  pub row-below : (k : ℕ) (ws : List ℕ) → Within ws (replicate k M) → Below M ws
+  row-below zero [] h = tt
+  row-below zero (w ∷ ws) h = absurd h
+  row-below (suc k) [] h = tt
+  row-below (suc k) (w ∷ ws) h = (h .0, row-below k ws (h .1))
+
+  -- the rows of k words are the numbers below M ^ k, each once
+  pub rows-flat : (p : ℕ → Bool) (k : ℕ) → countLists (λ ws. p (numberOf M ws)) (replicate k M) ≡ count p (M ^ k)
+  unfolding countLists numberOf count sum
+  rows-flat p zero = rw (pow-zero M) (sym (zero-add (oneIf (p 0))))
+  rows-flat p (suc k) =
+      sum-cong (λ w. countLists (λ ws. p (w * M ^ length ws + numberOf M ws)) (replicate k M)) (λ w. sum (λ x. oneIf (p (w * M ^ k + x))) (M ^ k)) M
+      (λ w h. lists-cong (λ ws. p (w * M ^ length ws + numberOf M ws)) (λ ws. p (w * M ^ k + numberOf M ws)) (replicate k M)
+      (λ ws v. ap (λ (n : ℕ). p (w * M ^ n + numberOf M ws)) (row-length k ws v))
+      ∙ rows-flat (λ x. p (w * M ^ k + x)) k)
+      ∙ sum-blocks (λ x. oneIf (p x)) M (M ^ k)
+      ∙ ap (sum (λ x. oneIf (p x))) (mul-comm M (M ^ k) ∙ sym (pow-suc M k))
+
+  module _ (r k : ℕ) (hr : 0 < r) where
+    N : ℕ
+    N = M ^ k
+
+    hN : 0 < M ^ k
+    hN = power-pos M k hM
+
+    -- what is asked of a row of k words is asked of its number
+    flat : (v : ℕ) → boundedShare M r k v ≡ share (M ^ k) r hN hr v
+    unfolding boundedShare boundedValue
+    flat v =
+        lists-cong (λ ws. eqb (numberOf M ws * r / M ^ length ws) v) (λ ws. eqb (numberOf M ws * r / M ^ k) v) (replicate k M)
+        (λ ws h. ap (λ (n : ℕ). eqb (numberOf M ws * r / M ^ n) v) (row-length k ws h))
+        ∙ rows-flat (λ x. eqb (x * r / M ^ k) v) k
+
+    pub bounded-share : (v : ℕ) → v < r → (boundedShare M r k v ≡ M ^ k / r) ⊎ (boundedShare M r k v ≡ M ^ k / r + 1)
+    bounded-share v hv = rw (flat v) (flat-share (M ^ k) r hN hr v hv)
+
+    pub bounded-one-more : count (λ v. eqb (boundedShare M r k v) (M ^ k / r + 1)) r ≡ M ^ k % r
+    bounded-one-more = simp flat (flat-one-more (M ^ k) r hN hr)

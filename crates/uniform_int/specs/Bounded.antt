@@ -1,26 +1,38 @@
--- The bounded draw below r (document 01: bounded draw; Lemire's multiplication, with a second word where the first leaves the value open).
--- M is the number of words, 2 ^ 32 in the generator's.
-use mathlib.Core.Bool.{Bool, cond}
+-- The bounded draw below r, on a list of words (document 01: bounded draw; document 02, Q-6: rand's feature `unbiased`, Canon's method). It reads on
+-- while more words could change its value. M is the number of words, 2 ^ 32 in the generator's.
+use mathlib.Core.Bool.{Bool, true, false}
+use mathlib.Core.List.{List, [], _∷_, _++_}
 use Prim.Native.Nat.{ℕ, _+_, _-_, _*_, _/_, _%_, _^_}
 use lib.Dec.{ltb}
-use Rattle.xoshiro256plusplus.specs.Generator.{word, advance}
-use Rattle.xoshiro256plusplus.specs.declared.Xoshiro256PlusPlus.{Xoshiro256PlusPlus}
-use Rattle.uniform_int.specs.declared.Drawn.{Drawn}
+use lib.ListN.{length}
 
--- the words a and b as one number below M * M, scaled to a number below r
-unfoldable pub boundedValue : (M r a b : ℕ) → ℕ
-boundedValue M r a b = (a * M + b) * r / (M * M)
+-- the words as one number, the first word its highest digit
+unfoldable pub numberOf : (M : ℕ) → List ℕ → ℕ
+numberOf M [] = 0
+numberOf M (w ∷ ws) = w * M ^ length ws + numberOf M ws
 
--- whether the second word is read: the low half of a * r is so high that b could raise the value
-unfoldable pub readsTwo : (M r a : ℕ) → Bool
-readsTwo M r a = ltb (M - r) (a * r % M)
+-- the value that k words give: their number, which is below M ^ k, scaled to a number below r
+unfoldable pub boundedValue : (M r : ℕ) → List ℕ → ℕ
+boundedValue M r ws = numberOf M ws * r / M ^ length ws
 
--- The draw from a generator: the value, the words read and the generator afterwards. Where the second word is not read, any would give
--- this value (`unread` of Shares).
-unfoldable pub bounded : ℕ → Xoshiro256PlusPlus → Drawn
-bounded r g =
-    record {
-      value = boundedValue (2 ^ 32) r (word g) (word (advance g));
-      words = cond (readsTwo (2 ^ 32) r (word g)) 2 1;
-      rng = cond (readsTwo (2 ^ 32) r (word g)) (advance (advance g)) (advance g);
-    }
+-- whether a draw that has read these words reads on: what the scaling leaves is so high that more words could raise the value
+unfoldable pub readsOn : (M r : ℕ) → List ℕ → Bool
+readsOn M r ws = ltb (M ^ length ws - r) (numberOf M ws * r % M ^ length ws)
+
+-- what a list of words does to a draw: it settles it with a value, after so many of the words; or all are read, and it reads on
+pub data OnWords : Type 0 where
+  settled : (value words : ℕ) → OnWords
+  unsettled : OnWords
+
+-- the draw that has read the words `read`, on further ones
+unfoldable pub drawFrom : (M r : ℕ) (read : List ℕ) → List ℕ → OnWords
+drawFrom M r read [] = unsettled
+drawFrom M r read (w ∷ ws) =
+    elim (readsOn M r (read ++ (w ∷ []))) [
+      | true ↦ drawFrom M r (read ++ (w ∷ [])) ws
+      | false ↦ settled (boundedValue M r (read ++ (w ∷ []))) (length (read ++ (w ∷ [])))
+    ]
+
+-- the draw on a list of words
+unfoldable pub boundedOn : (M r : ℕ) → List ℕ → OnWords
+boundedOn M r ws = drawFrom M r [] ws

@@ -2,64 +2,13 @@
 ghost use mathlib.Core.Path.{_≡_};
 ghost use Prim.Native.Nat.{_<_, _^_, _%_, _-_};
 ghost use Rattle.xoshiro256plusplus.specs.Generator.{word};
-ghost use Rattle.uniform_int.specs.Bounded.{boundedValue, bounded};
 ghost use Rattle.uniform_int.specs.Rejecting.{shown, rejectingAt};
+ghost use Rattle.uniform_int.specs.ReadingOn.{Adds, carriedBy, Carries};
 ghost use Rattle.uniform_int.specs.Within.{boundedWithin};
 use utils::wmul;
 use xoshiro256plusplus::Xoshiro256PlusPlus;
 
 mod utils;
-
-// A drawn number, the words read for it, and the generator after them.
-pub struct Drawn {
-    pub value: u32,
-    pub words: u64,
-    pub rng: Xoshiro256PlusPlus,
-}
-
-// What was read for several draws: the words, and the generator after them.
-pub struct Reading {
-    pub words: u64,
-    pub rng: Xoshiro256PlusPlus,
-}
-
-// The value that two words give: the product's upper word, with the carry of the second word's product.
-fn of_two_words(a: u32, b: u32, range: u32) -> u32
-    requires { ⌜ 0 < range ⌝ }
-    ensures { λ r. ⌜ r ≡ boundedValue (2 ^ 32) range a b ⌝ }
-{
-    let first = wmul(a, range);
-    let second = wmul(b, range);
-    let carry = (first.low as u64 + second.high as u64) / 0x1_0000_0000;
-    let value = first.high as u64 + carry;
-    value as u32
-}
-
-// The bounded draw: a number below `range` from one word, or from two where the first leaves it open. The definition is `bounded`; each
-// value has its share of the pairs of words, or one pair more (`DrawShares`). rand: `random_range`, `sample_single_inclusive`.
-pub fn random_range(rng: Xoshiro256PlusPlus, range: u32) -> Drawn
-    requires { ⌜ 0 < range ⌝ }
-    ensures { λ d. ⌜ d ≡ bounded range rng ⌝ }
-{
-    let first = rng.next_u32();
-    let after = first.rng;
-    let product = wmul(first.value, range);
-    if product.low <= 0xffff_ffff - (range - 1) {
-        return Drawn {
-            value: product.high,
-            words: 1,
-            rng: after,
-        };
-    }
-    let second = after.next_u32();
-    let last = second.rng;
-    let value = of_two_words(first.value, second.value, range);
-    Drawn {
-        value: value,
-        words: 2,
-        rng: last,
-    }
-}
 
 // What a draw under a budget answers. The definition `answerOf` gives the number and the values of each case.
 pub enum Draw {
@@ -75,9 +24,121 @@ pub struct Sampled {
     pub rng: Xoshiro256PlusPlus,
 }
 
-// The bounded draw within a budget, of which `words` are used up before. Where the budget ends before the draw does, it is read to its
-// end. The definition is `boundedWithin`.
-pub fn random_range_within(rng: Xoshiro256PlusPlus, range: u32, words: u64, budget: u64) -> Sampled
+// What was read for several draws, and whether all of them are finished: the words, and the generator after them.
+pub struct Reading {
+    pub all: bool,
+    pub words: u64,
+    pub rng: Xoshiro256PlusPlus,
+}
+
+// What a carry from the words behind makes of a sum whose lower bits are all set: the upper word, with that carry. A budget that ended there ends here.
+fn carried(more: Sampled, sum: u64) -> Sampled
+    requires { ⌜ sum < 2 ^ 64 - 2 ^ 32 ⌝ }
+    ensures { λ s. ⌜ shown s ≡ carriedBy sum (shown more) ⌝ }
+{
+    let rng = more.rng;
+    let draw = more.draw;
+    let Draw::Value(c) = draw else {
+        return more;
+    };
+    let value = ((sum + c as u64) / 0x1_0000_0000) as u32;
+    Sampled {
+        draw: Draw::Value(value),
+        words: more.words,
+        rng: rng,
+    }
+}
+
+// What a word more makes of a draw that reads on: the sum of the lower word before and the upper word of its product, and the product's lower word.
+struct Added {
+    pub sum: u64,
+    pub low: u32,
+    pub rng: Xoshiro256PlusPlus,
+}
+
+// Reads a word more.
+fn add_word(rng: Xoshiro256PlusPlus, range: u32, low: u32) -> Added
+    ensures { λ a. ⌜ Adds rng range low a ⌝ }
+{
+    let word = rng.next_u32();
+    let after = word.rng;
+    let product = wmul(word.value, range);
+    let sum = low as u64 + product.high as u64;
+    Added {
+        sum: sum,
+        low: product.low,
+        rng: after,
+    }
+}
+
+// What the words to come add to the value of a draw: 1 if they carry into it, and else 0. While a draw reads on all bits above `low`, the lower word of its last
+// product, are set. So the next product carries if its upper word makes the sum pass them; and where all bits of the sum are set, the words behind
+// decide. That is rand's loop, which keeps one lower word and one carry. It calls itself instead: a loop would be compiled into every loop that draws, and
+// take its registers. One draw in some 2^64 / r gets to a third word, and one in 2^32 of these to a fourth.
+fn carry(rng: Xoshiro256PlusPlus, range: u32, low: u32, words: u64, budget: u64) -> Sampled
+    requires { ⌜ 0 < range ⌝ }
+    ensures { λ s. ⌜ Carries range budget low rng words (shown s) ⌝ }
+{
+    if low <= 0xffff_ffff - (range - 1) {
+        return Sampled {
+            draw: Draw::Value(0),
+            words: words,
+            rng: rng,
+        };
+    }
+    if words >= budget {
+        return Sampled {
+            draw: Draw::Spent,
+            words: words,
+            rng: rng,
+        };
+    }
+    let added = add_word(rng, range, low);
+    let after = added.rng;
+    if added.sum != 0xffff_ffff {
+        let value = (added.sum / 0x1_0000_0000) as u32;
+        return Sampled {
+            draw: Draw::Value(value),
+            words: words + 1,
+            rng: after,
+        };
+    }
+    carried(carry(after, range, added.low, words + 1, budget), added.sum)
+}
+
+// The same of a draw that reads on, with its next word read here: below a wide range half of all draws read two, and none of them is to pay for a call.
+fn carry_of_next(rng: Xoshiro256PlusPlus, range: u32, low: u32, words: u64, budget: u64) -> Sampled
+    requires { ⌜ (0 < range) × (2 ^ 32 - range < low) ⌝ }
+    ensures { λ s. ⌜ Carries range budget low rng words (shown s) ⌝ }
+{
+    if words >= budget {
+        return Sampled {
+            draw: Draw::Spent,
+            words: words,
+            rng: rng,
+        };
+    }
+    let next = add_word(rng, range, low);
+    let after = next.rng;
+    if next.sum != 0xffff_ffff {
+        let value = (next.sum / 0x1_0000_0000) as u32;
+        return Sampled {
+            draw: Draw::Value(value),
+            words: words + 1,
+            rng: after,
+        };
+    }
+    carried(carry(after, range, next.low, words + 1, budget), next.sum)
+}
+
+// The bounded draw, that of rand's feature `unbiased`. Whether the range is wide changes nothing but where the code of the second word stands.
+fn sample_single_inclusive(
+    rng: Xoshiro256PlusPlus,
+    range: u32,
+    words: u64,
+    budget: u64,
+    is_wide: bool,
+) -> Sampled
     requires { ⌜ 0 < range ⌝ }
     ensures { λ s. ⌜ shown s ≡ boundedWithin range (budget - words) rng words ⌝ }
 {
@@ -88,23 +149,44 @@ pub fn random_range_within(rng: Xoshiro256PlusPlus, range: u32, words: u64, budg
             rng: rng,
         };
     }
-    let drawn = random_range(rng, range);
-    if drawn.words <= budget - words {
-        let after = drawn.rng;
+    let first = rng.next_u32();
+    let product = wmul(first.value, range);
+    if product.low <= 0xffff_ffff - (range - 1) {
+        let after = first.rng;
         return Sampled {
-            draw: Draw::Value(drawn.value),
-            words: words + drawn.words,
+            draw: Draw::Value(product.high),
+            words: words + 1,
             rng: after,
         };
     }
-    // One word is left, and the draw wants two.
-    let first = rng.next_u32();
-    let after = first.rng;
-    Sampled {
-        draw: Draw::Spent,
-        words: budget,
-        rng: after,
+    // The generator is copied to where `carry` is handed it, so not before the test.
+    let rest = first.rng;
+    let full = product.high as u64 * 0x1_0000_0000 + 0xffff_ffff;
+    if is_wide {
+        return carried(
+            carry_of_next(rest, range, product.low, words + 1, budget),
+            full,
+        );
     }
+    carried(carry(rest, range, product.low, words + 1, budget), full)
+}
+
+// The bounded draw: a number below `range`, within a budget of which `words` are used up before. It reads on while more words could change its value, and
+// where the budget ends first, it is read to its end. The definition is `boundedWithin`. Each value has its share of the rows of k words, or one row
+// more, for every k (`DrawShares`). rand: `random_range`.
+pub fn random_range(rng: Xoshiro256PlusPlus, range: u32, words: u64, budget: u64) -> Sampled
+    requires { ⌜ 0 < range ⌝ }
+    ensures { λ s. ⌜ shown s ≡ boundedWithin range (budget - words) rng words ⌝ }
+{
+    sample_single_inclusive(rng, range, words, budget, false)
+}
+
+// The same draw, for callers whose ranges come near 2^32, where it often reads two words.
+pub fn random_range_wide(rng: Xoshiro256PlusPlus, range: u32, words: u64, budget: u64) -> Sampled
+    requires { ⌜ 0 < range ⌝ }
+    ensures { λ s. ⌜ shown s ≡ boundedWithin range (budget - words) rng words ⌝ }
+{
+    sample_single_inclusive(rng, range, words, budget, true)
 }
 
 // The rejecting draw: words whose product with `range` has a lower word below `thresh` are dropped.

@@ -1,7 +1,7 @@
 -- A view's draw, by its ends: it is declined for a cause other than its amount, or is a sample by one of the three methods.
 -- Assumes nothing.
 use mathlib.Core.Path.{_≡_, refl, sym, _∙_, subst}
-use mathlib.Core.Bool.{Bool, true, false, false≢true}
+use mathlib.Core.Bool.{Bool, true, false, cond, false≢true}
 use mathlib.Core.List.{List, [], _∷_, _++_}
 use Prim.Native.Nat.{ℕ, zero, suc, _-_, _%_, _^_, _≤_, _<_, min}
 use native.Mathlib.Nat.{min-le-right}
@@ -11,7 +11,6 @@ use lib.ListN.{length, getD, take, drop}
 use lib.Pow.{pow-pos}
 use lib.Seq.{take-at}
 use borrow.Author.Tests.{ltb-true, ltb-false, eq-eqb}
-use Rattle.refusal.specs.Answer.{answerOf}
 use Rattle.refusal.specs.Number.{number}
 use Rattle.refusal.specs.declared.Outcome.the-variants.{Done}
 use Rattle.refusal.specs.declared.Refusal.{Refusal}
@@ -22,10 +21,10 @@ use Rattle.xoshiro256plusplus.specs.declared.Xoshiro256PlusPlus.{Xoshiro256Plus
 use Rattle.xoshiro256plusplus.proofs.Laws.{word-lt}
 use Rattle.counting.specs.Bounds.{rising}
 use Rattle.counting.specs.Lists.{Below}
-use Rattle.uniform_int.specs.Draws.{draws}
+use Rattle.uniform_int.specs.Draws.{Draws, draws}
 use Rattle.uniform_int.specs.Rejecting.{accepts, scaled}
 use Rattle.uniform_int.specs.Reads.{Positive}
-use Rattle.uniform_int.proofs.Laws.{draws-within}
+use Rattle.uniform_int.proofs.InTurn.{draws-give}
 use Rattle.uniform_int.proofs.Scaling.{upper-lt}
 use Rattle.crossover.specs.Method.{methodOf}
 use Rattle.crossover.specs.declared.Method.{Method}
@@ -33,9 +32,10 @@ use Rattle.crossover.specs.declared.Method.the-variants.{Floyd, InPlace, Reject
 use Rattle.index_methods.specs.Floyd.{floydOf, floydBounds}
 use Rattle.index_methods.specs.InPlace.{arranged, falling}
 use Rattle.index_methods.specs.Rejection.{Found, foundOf, acceptedOf}
-use Rattle.index.specs.Sample.{Sampling, refuses, byFloyd, byInPlace, byRejection, sampleOf}
+use Rattle.index.specs.Sample.{Sampling, refuses, written, byFloyd, byInPlace, byRejection, sampleOf}
 use Rattle.index_shares.specs.Shares.{SampleOf}
 use Rattle.index.proofs.Cases.{Fit, slice-short, floyd, scratch-short, in-place, rejection, positive}
+use Rattle.index_methods.proofs.FloydTurns.{length-sample}
 use Rattle.index_methods.proofs.InPlaceTurns.{falling-positive}
 use Rattle.index_shares.proofs.Shares.{index-shares}
 use Rattle.indexed_samples.proofs.View.{some}
@@ -47,8 +47,8 @@ use Rattle.view_sample.proofs.Cases.{zero-state, too-long, sampled, all
 -- a property of every end that a sample of an amount within the length can have
 record Ends (P : Sampling → Type 0) (n amount budget : ℕ) (g : Xoshiro256PlusPlus) (indices scratch : List ℕ) : Type 0 where
   refused : (r : Refusal) → eqb (number r) (number AmountExceedsLength) ≡ false → P (refuses r g indices scratch)
-  floyd : P (byFloyd n amount g indices scratch)
-  in-place : P (byInPlace n amount g indices scratch)
+  floyd : P (byFloyd n amount (draws budget (floydBounds n amount) g) indices scratch)
+  in-place : P (byInPlace n amount (draws budget (falling n amount) g) indices scratch)
   rejection : 0 < n → P (byRejection (foundOf n amount budget g) indices scratch)
 
 module _ (P : Sampling → Type 0) (n amount budget : ℕ) (g : Xoshiro256PlusPlus) (indices scratch : List ℕ) where
@@ -90,28 +90,32 @@ module _ (P : Sampling → Type 0) (n amount budget : ℕ) (g : Xoshiro256PlusPl
 
 -- ---- never for the amount
 
+never-1 : (all : Bool) (count : ℕ) → eqb (written all count .number) (number AmountExceedsLength) ≡ false
+never-1 true count = refl
+never-1 false count = refl
+
 other-number : (n amount budget : ℕ) (g : Xoshiro256PlusPlus) (indices scratch : List ℕ)
     → eqb (viewSampleOf n amount budget g indices scratch .answer .number) (number AmountExceedsLength) ≡ false
 unfolding refuses byFloyd byInPlace byRejection
 other-number n amount budget g indices scratch =
     of-view (λ s. eqb (s .answer .number) (number AmountExceedsLength) ≡ false) n amount budget g indices scratch
-    (record { refused = λ r e. e; floyd = refl; in-place = refl; rejection = λ pos. go (foundOf n (min amount n) budget g) })
-  where
-    go : (f : Found) → eqb (byRejection f indices scratch .answer .number) (number AmountExceedsLength) ≡ false
-    go f = found (f .all) refl
-      where
-        found : (b : Bool) → f .all ≡ b → eqb (byRejection f indices scratch .answer .number) (number AmountExceedsLength) ≡ false
-        found true e = rw e refl
-        found false e = rw e refl
+    (record {
+      refused = λ r e. e;
+      floyd = let d : Draws = draws budget (floydBounds n (min amount n)) g in never-1 (d .all) (length (d .values));
+      in-place = let d : Draws = draws budget (falling n (min amount n)) g in never-1 (d .all) (cond (d .all) (min amount n) 0);
+      rejection = λ pos. let f : Found = foundOf n (min amount n) budget g in never-1 (f .all) (length (f .indices));
+    })
 
 -- ---- a sample
 
 abbrev Sample : ℕ → ℕ → Sampling → Type 0
 Sample n amount s = s .answer .number ≡ 0 → SampleOf n amount (drawnOf (s .answer) (s .indices))
 
--- those drawn are the ones at the front
-front : (l rest : List ℕ) (count : ℕ) → length l ≡ count → drawnOf (answerOf Done count) (l ++ rest) ≡ l
-front l rest count e = all-drawn Done count (l ++ rest) refl ∙ take-at l rest count e
+-- a draw that is not declined has written all, and shows what it has written
+all-written : (n amount : ℕ) (all : Bool) (count : ℕ) (l : List ℕ) → (all ≡ true → SampleOf n amount (take count l)) → written all count .number ≡ 0
+    → SampleOf n amount (drawnOf (written all count) l)
+all-written n amount true count l p e = rw (all-drawn Done count l refl) (p refl)
+all-written n amount false count l p e = absurd (omega (arith, e))
 
 rising-positive : (j m : ℕ) → Positive (rising j m)
 unfolding rising
@@ -127,39 +131,33 @@ accepted-below r (suc n) g h = go (accepts (2 ^ 32) r (2 ^ 32 % r) (word g)) (ac
     go true ih = (upper-lt (2 ^ 32) r (word g) (pow-pos 32) h (word-lt g), ih)
     go false ih = ih
 
-module _ (f : Found) (indices scratch : List ℕ) where
-  all-found : f .all ≡ true → drawnOf (byRejection f indices scratch .answer) (byRejection f indices scratch .indices) ≡ f .indices
-  unfolding byRejection
-  all-found a = rw a (front (f .indices) (drop (length (f .indices)) indices) (length (f .indices)) refl)
-
-  not-all : f .all ≡ false → byRejection f indices scratch .answer .number ≡ 0 → ⊥
-  unfolding byRejection
-  not-all a e = omega (arith, rw a at e)
-
 module _ (n amount budget : ℕ) (g : Xoshiro256PlusPlus) (indices scratch : List ℕ) (k : amount ≤ n) where
-  by-floyd : Sample n amount (byFloyd n amount g indices scratch)
+  by-floyd : Sample n amount (byFloyd n amount (draws budget (floydBounds n amount) g) indices scratch)
   unfolding byFloyd floydBounds
-  by-floyd e =
-      let p = index-shares .floyd-sample n amount (draws (floydBounds n amount) g .values) k (draws-within (floydBounds n amount) g (rising-positive (n - amount) amount)) in
-      rw (front (floydOf n amount (draws (floydBounds n amount) g .values)) (drop amount indices) amount (p .size)) p
+  by-floyd =
+      let d : Draws = draws budget (floydBounds n amount) g in
+      let l : List ℕ = floydOf n amount (d .values) in
+      all-written n amount (d .all) (length (d .values)) (l ++ drop (length (d .values)) indices)
+      (λ a. rw (take-at l (drop (length (d .values)) indices) (length (d .values)) (length-sample n amount (d .values)))
+      (index-shares .floyd-sample n amount (d .values) k (draws-give budget (floydBounds n amount) g (rising-positive (n - amount) amount) .all a)))
 
-  by-in-place : Sample n amount (byInPlace n amount g indices scratch)
+  by-in-place : Sample n amount (byInPlace n amount (draws budget (falling n amount) g) indices scratch)
   unfolding byInPlace
-  by-in-place e =
-      let p = index-shares .in-place-sample n amount (draws (falling n amount) g .values) k (draws-within (falling n amount) g (falling-positive n amount k)) in
-      rw (front (take amount (arranged n (draws (falling n amount) g .values))) (drop amount indices) amount (p .size)) p
+  by-in-place =
+      let d : Draws = draws budget (falling n amount) g in
+      let l : List ℕ = take amount (arranged n (d .values)) in
+      all-written n amount (d .all) (cond (d .all) amount 0) (cond (d .all) (l ++ drop amount indices) indices)
+      (λ a.
+      let p = index-shares .in-place-sample n amount (d .values) k (draws-give budget (falling n amount) g (falling-positive n amount k) .all a) in
+      rw (a, take-at l (drop amount indices) amount (p .size)) p)
 
   by-rejection : 0 < n → Sample n amount (byRejection (foundOf n amount budget g) indices scratch)
-  by-rejection pos = go (foundOf n amount budget g .all) refl
-    where
-      f : Found
-      f = foundOf n amount budget g
-
-      go : (b : Bool) → f .all ≡ b → Sample n amount (byRejection f indices scratch)
-      go true a e =
-          rw (all-found f indices scratch a)
-          (index-shares .rejection-sample n amount (acceptedOf n budget g) (f .indices) (accepted-below n budget g pos) (index-shares .words-give n amount budget g a))
-      go false a e = absurd (not-all f indices scratch a e)
+  unfolding byRejection
+  by-rejection pos =
+      let f : Found = foundOf n amount budget g in
+      all-written n amount (f .all) (length (f .indices)) (f .indices ++ drop (length (f .indices)) indices)
+      (λ a. rw (take-at (f .indices) (drop (length (f .indices)) indices) (length (f .indices)) refl)
+      (index-shares .rejection-sample n amount (acceptedOf n budget g) (f .indices) (accepted-below n budget g pos) (index-shares .words-give n amount budget g a)))
 
 each-sample : (n amount budget : ℕ) (g : Xoshiro256PlusPlus) (indices scratch : List ℕ) → Sample n (min amount n) (viewSampleOf n amount budget g indices scratch)
 unfolding refuses

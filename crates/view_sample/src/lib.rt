@@ -66,7 +66,7 @@ pub struct ViewSample<'a> {
 }
 
 // Draws indices by `sample_indices` and shows the items at them; on any refusal the view shows nothing. The indices are lent for as long as the
-// view is used, so the answer has their slice whole: with refusal 13 it holds what was found. `Viewed` says all of it.
+// view is used, so the answer has their slice whole: with refusal 13 it holds what `index::sample` leaves. `Viewed` says all of it.
 pub fn sample<'a>(
     rng: Xoshiro256PlusPlus,
     items: &'a [u32],

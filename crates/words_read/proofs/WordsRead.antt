@@ -5,7 +5,7 @@ use Prim.Native.Nat.{ℕ}
 use Rattle.uniform_int.specs.Rejecting.{Drawing}
 use Rattle.choose.proofs.ChoiceWords.{Reads, choose-reads, stable-reads}
 use Rattle.words_read.specs.WordsRead.{ReadsWithin, WordsRead}
-use Rattle.words_read.proofs.Samples.{sample-rejects, sample-else, view-rejects, view-else}
+use Rattle.words_read.proofs.Samples.{sample, view}
 use Rattle.words_read.proofs.Others.{partial-shuffle, shuffle, fill, pick, lent-word}
 
 chosen : (g : Xoshiro256PlusPlus) (budget : ℕ) (d : Drawing) → Reads g budget d → ReadsWithin budget g (d .answer) (d .words) (d .rng)
@@ -14,10 +14,8 @@ chosen g budget d r = record { after = r .rng; within = r .few; spent = r .spent
 pub words-read : WordsRead
 words-read =
     record {
-      sample-rejects = sample-rejects;
-      sample = sample-else;
-      view-rejects = view-rejects;
-      view = view-else;
+      sample = sample;
+      view = view;
       partial-shuffle = partial-shuffle;
       shuffle = shuffle;
       fill = fill;

@@ -1,15 +1,13 @@
 -- Words told truly: what the words figure of every public call that draws says of the generator handed back, and of the budget.
 use mathlib.Core.Path.{_≡_}
 use mathlib.Core.List.{List}
-use Prim.Native.Nat.{ℕ, _≤_, min}
+use Prim.Native.Nat.{ℕ, _≤_}
 use Rattle.refusal.specs.Answer.{Answer}
 use Rattle.refusal.specs.Number.{number}
 use Rattle.refusal.specs.declared.Refusal.the-variants.{BudgetExhausted}
 use Rattle.xoshiro256plusplus.specs.Generator.{steps}
 use Rattle.xoshiro256plusplus.specs.declared.Xoshiro256PlusPlus.{Xoshiro256PlusPlus}
 use Rattle.uniform_int.specs.Rejecting.{Drawing}
-use Rattle.crossover.specs.Method.{methodOf}
-use Rattle.crossover.specs.declared.Method.the-variants.{Rejection}
 use Rattle.index.specs.Sample.{Sampling, sampleOf}
 use Rattle.slice.specs.Shuffled.{Shuffling, partialShuffleOf, wholeShuffleOf}
 use Rattle.iterator.specs.Fill.{Filling, sampleFillOf}
@@ -32,21 +30,18 @@ pub record ReadsWithin (budget : ℕ) (g : Xoshiro256PlusPlus) (a : Answer) (wor
 
 -- A field for each call that draws. Each holds of all arguments, and so of refused calls too.
 pub record WordsRead : Type 0 where
-  -- `sample`: rejection heeds the budget, and the other two methods do not read it
-  pub sample-rejects : (n amount budget : ℕ) (g : Xoshiro256PlusPlus) (indices scratch : List ℕ) → methodOf n amount ≡ Rejection
+  -- `sample`, whichever method is due, and the view
+  pub sample : (n amount budget : ℕ) (g : Xoshiro256PlusPlus) (indices scratch : List ℕ)
       → (let s : Sampling = sampleOf n amount budget g indices scratch in ReadsWithin budget g (s .answer) (s .words) (s .rng))
-  pub sample : (n amount budget : ℕ) (g : Xoshiro256PlusPlus) (indices scratch : List ℕ) → (methodOf n amount ≡ Rejection → ⊥)
-      → (let s : Sampling = sampleOf n amount budget g indices scratch in Reads g (s .answer) (s .words) (s .rng))
-  -- the view: the same for the amount that it is clipped to
-  pub view-rejects : (n amount budget : ℕ) (g : Xoshiro256PlusPlus) (indices scratch : List ℕ) → methodOf n (min amount n) ≡ Rejection
+  pub view : (n amount budget : ℕ) (g : Xoshiro256PlusPlus) (indices scratch : List ℕ)
       → (let s : Sampling = viewSampleOf n amount budget g indices scratch in ReadsWithin budget g (s .answer) (s .words) (s .rng))
-  pub view : (n amount budget : ℕ) (g : Xoshiro256PlusPlus) (indices scratch : List ℕ) → (methodOf n (min amount n) ≡ Rejection → ⊥)
-      → (let s : Sampling = viewSampleOf n amount budget g indices scratch in Reads g (s .answer) (s .words) (s .rng))
   -- the two shuffles and the fill
-  pub partial-shuffle : (amount : ℕ) (g : Xoshiro256PlusPlus) (items : List ℕ)
-      → (let s : Shuffling = partialShuffleOf amount g items in Reads g (s .answer) (s .words) (s .rng))
-  pub shuffle : (g : Xoshiro256PlusPlus) (items : List ℕ) → (let s : Shuffling = wholeShuffleOf g items in Reads g (s .answer) (s .words) (s .rng))
-  pub fill : (g : Xoshiro256PlusPlus) (items buf : List ℕ) → (let s : Filling = sampleFillOf g items buf in Reads g (s .answer) (s .words) (s .rng))
+  pub partial-shuffle : (amount budget : ℕ) (g : Xoshiro256PlusPlus) (items : List ℕ)
+      → (let s : Shuffling = partialShuffleOf amount budget g items in ReadsWithin budget g (s .answer) (s .words) (s .rng))
+  pub shuffle : (budget : ℕ) (g : Xoshiro256PlusPlus) (items : List ℕ)
+      → (let s : Shuffling = wholeShuffleOf budget g items in ReadsWithin budget g (s .answer) (s .words) (s .rng))
+  pub fill : (budget : ℕ) (g : Xoshiro256PlusPlus) (items buf : List ℕ)
+      → (let s : Filling = sampleFillOf budget g items buf in ReadsWithin budget g (s .answer) (s .words) (s .rng))
   -- the pick
   pub pick : (g : Xoshiro256PlusPlus) (t : WeightedIndex) (sums : List ℕ) (budget : ℕ)
       → (let d : Drawing = pickOf g t sums budget in ReadsWithin budget g (d .answer) (d .words) (d .rng))

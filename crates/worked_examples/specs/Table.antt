@@ -7,8 +7,8 @@ use Prim.Native.Nat.{ℕ, suc}
 use Rattle.counting.specs.Lists.{same}
 use Rattle.xoshiro256plusplus.specs.Generator.{nextWords}
 use Rattle.xoshiro256plusplus.specs.declared.Xoshiro256PlusPlus.{Xoshiro256PlusPlus}
-use Rattle.uniform_int.specs.Bounded.{bounded}
-use Rattle.uniform_int.specs.Rejecting.{rejecting}
+use Rattle.uniform_int.specs.Rejecting.{Drawing, rejecting}
+use Rattle.uniform_int.specs.Within.{boundedWithin}
 use Rattle.index_methods.specs.Floyd.{floydOf}
 use Rattle.increasing_uniform.specs.Chunks.{factors, moreOf}
 use Rattle.slice.specs.Shuffle.{shuffleOf}
@@ -25,18 +25,21 @@ pub record Row : Type 0 where
 abbrev row : List ℕ → List ℕ → Row
 row c s = record { computed = c; stated = s }
 
--- ---- draws: the words that are read, and then what they give
+-- ---- draws: the words that are read, the number 0 where a value is had, and the value
 
 abbrev state : (s0 s1 s2 s3 : ℕ) → Xoshiro256PlusPlus
 state s0 s1 s2 s3 = record { s0 = s0; s1 = s1; s2 = s2; s3 = s3 }
 
--- a bounded draw below r: the words that it reads, and its value
-unfoldable pub drawRow : (r : ℕ) → Xoshiro256PlusPlus → List ℕ
-drawRow r g = nextWords (bounded r g .words) g ++ (bounded r g .value ∷ [])
+-- a draw: the words that it reads, the number of its answer, and its value
+unfoldable pub drawRow : Xoshiro256PlusPlus → Drawing → List ℕ
+drawRow g d = nextWords (d .words) g ++ (d .answer .number ∷ d .answer .values)
 
--- a rejecting draw below r with so many words to read: the words that it reads, the number of its answer, and its value
-unfoldable pub rejectRow : (r budget : ℕ) → Xoshiro256PlusPlus → List ℕ
-rejectRow r budget g = nextWords (rejecting r budget g 0 .words) g ++ (rejecting r budget g 0 .answer .number ∷ rejecting r budget g 0 .answer .values)
+-- below r with so many words to read: a bounded draw, and a rejecting one
+unfoldable pub boundedRow : (r budget : ℕ) → Xoshiro256PlusPlus → List ℕ
+boundedRow r budget g = drawRow g (boundedWithin r budget g 0)
+
+unfoldable pub rejectingRow : (r budget : ℕ) → Xoshiro256PlusPlus → List ℕ
+rejectingRow r budget g = drawRow g (rejecting r budget g 0)
 
 -- the bound of a chunk that starts at m, and the number of its factors
 unfoldable pub boundRow : ℕ → List ℕ
@@ -61,13 +64,13 @@ changeRow ws slice places weights =
 unfoldable pub table : List Row
 table =
     -- r = 6: word 2147483648 gives 3; word 4294967295 gives 5, one word read
-    row (drawRow 6 (state 0 0x10000000000 0 0x10000000000)) (2147483648 ∷ 3 ∷ [])
-    ∷ row (drawRow 6 (state 0 0x1fffffffe00 0 0x1fffffffe00)) (4294967295 ∷ 5 ∷ [])
-    -- r = 6: words 715827882, 2863311531 give 1; 715827882, 2863311530 give 0
-    ∷ row (drawRow 6 (state 0x1555552ab56 0x5aa952fffffffdff 0 0x5aa952fffffffdff)) (715827882 ∷ 2863311531 ∷ 1 ∷ [])
-    ∷ row (drawRow 6 (state 0x1555552a956 0x5aad52ffffffffff 0 0x5aad52ffffffffff)) (715827882 ∷ 2863311530 ∷ 0 ∷ [])
+    row (boundedRow 6 4 (state 0 0x10000000000 0 0x10000000000)) (2147483648 ∷ 0 ∷ 3 ∷ [])
+    ∷ row (boundedRow 6 4 (state 0 0x1fffffffe00 0 0x1fffffffe00)) (4294967295 ∷ 0 ∷ 5 ∷ [])
+    -- r = 6: words 715827882, 2863311531 give 1; 715827882, 2863311530 read a third; 0 there gives 0
+    ∷ row (boundedRow 6 4 (state 0x1555552ab56 0x5aa952fffffffdff 0 0x5aa952fffffffdff)) (715827882 ∷ 2863311531 ∷ 0 ∷ 1 ∷ [])
+    ∷ row (boundedRow 6 4 (state 0xaaaaaaaa0000000 0xffffff3ffffffec0 0xf55554c00aaaaac0 0xf55555955ffffec0)) (715827882 ∷ 2863311530 ∷ 0 ∷ 0 ∷ 0 ∷ [])
     -- rejecting, r = 6: words 0, 1 give 0; word 0 is dropped
-    ∷ row (rejectRow 6 2 (state 0x200 0xfffc01fffffffdff 0 0xfffc01fffffffdff)) (0 ∷ 1 ∷ 0 ∷ 0 ∷ [])
+    ∷ row (rejectingRow 6 2 (state 0x200 0xfffc01fffffffdff 0 0xfffc01fffffffdff)) (0 ∷ 1 ∷ 0 ∷ 0 ∷ [])
     -- Floyd 2 of 3: draws 1, 1 give 2, 1; draws 0, 0 give 2, 0
     ∷ row (floydOf 3 2 (1 ∷ 1 ∷ [])) (2 ∷ 1 ∷ [])
     ∷ row (floydOf 3 2 (0 ∷ 0 ∷ [])) (2 ∷ 0 ∷ [])

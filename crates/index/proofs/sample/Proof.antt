@@ -17,16 +17,16 @@ abbrev tested : tie.After-choose-method → tie.After-is-zero
 tested c = c .before .before .before .before .before
 
 -- where one of the three methods is due, and its answer is packed
-abbrev floyd-due : tie.After-drawn → tie.After-enum-told
+abbrev floyd-due : tie.After-found → tie.After-enum-told
 floyd-due c = c .before .before .before .before .before
 
-abbrev swapped : tie.After-drawn2 → tie.After-sample-inplace
+abbrev swapped : tie.After-found2 → tie.After-sample-inplace
 swapped c = c .before .before .before .before .before
 
-abbrev in-place-due : tie.After-drawn2 → tie.After-enum-told2
+abbrev in-place-due : tie.After-found2 → tie.After-enum-told2
 in-place-due c = swapped c .before .before .before .before
 
-abbrev rejection-due : tie.After-found → tie.After-enum-told3
+abbrev rejection-due : tie.After-found3 → tie.After-enum-told3
 rejection-due c = c .before .before .before .before .before
 
 -- ---- the needs
@@ -93,8 +93,8 @@ enum-told c = search needs
 sample-floyd-requires : tie.Need-sample-floyd-requires
 sample-floyd-requires c κs = search needs
 
-drawn-requires : tie.Need-drawn-requires
-drawn-requires c κs = search needs
+found-requires : tie.Need-found-requires
+found-requires c κs = search needs
 
 enum-told-2 : tie.Need-enum-told-2
 enum-told-2 c = search needs
@@ -112,8 +112,8 @@ returns-5 c =
 sample-inplace-requires : tie.Need-sample-inplace-requires
 sample-inplace-requires c κs = search needs
 
-drawn-requires-2 : tie.Need-drawn-requires-2
-drawn-requires-2 c κs = search needs
+found-requires-2 : tie.Need-found-requires-2
+found-requires-2 c κs = search needs
 
 enum-told-3 : tie.Need-enum-told-3
 enum-told-3 c = search needs
@@ -124,8 +124,8 @@ sample-rejection-requires c κs =
     let due = sym (c .before .before .before .choose-method .ensures) ∙ c .before .enum-told3 .given .1 in
     (positive (a .length) (a .amount) due (omega arith), omega arith)
 
-found-requires : tie.Need-found-requires
-found-requires c κs = search needs
+found-requires-3 : tie.Need-found-requires-3
+found-requires-3 c κs = search needs
 
 same-length : tie.Need-same-length
 same-length c = search needs
@@ -135,8 +135,9 @@ returns-6 c =
     let m = floyd-due c .before .before in
     let a = begun (tested m) .args in
     let due = sym (m .choose-method .ensures) ∙ floyd-due c .enum-told .given .1 in
-    let d = c .drawn .ensures in
-    floyd-done (a .length) (a .amount) (a .rng) _ (c .drawn .result) (d .0) (d .1) (d .2) (now (a .indices)) _ (now (a .scratch)) (c .before .before .before .sample-floyd .ensures)
+    let r = c .before .before .before .sample-floyd in
+    let d = c .found .ensures in
+    floyd-done (r .result) (c .found .result) (d .0) (d .1) (d .2) (a .length) (a .amount) _ (now (a .indices)) _ (now (a .scratch)) (r .ensures)
     ∙ sym (floyd (a .length) (a .amount) (a .budget) (a .rng) (now (a .indices)) (now (a .scratch)) (fit m) due)
 
 same-length-2 : tie.Need-same-length-2
@@ -150,8 +151,9 @@ returns-7 c =
     let m = in-place-due c .before .before in
     let a = begun (tested m) .args in
     let due = sym (m .choose-method .ensures) ∙ in-place-due c .enum-told2 .given .1 in
-    let d = c .drawn2 .ensures in
-    in-place-done (a .length) (a .amount) (a .rng) _ (c .drawn2 .result) (d .0) (d .1) (d .2) (now (a .indices)) _ (now (a .scratch)) _ (swapped c .sample-inplace .ensures)
+    let r = swapped c .sample-inplace in
+    let d = c .found2 .ensures in
+    in-place-done (r .result) (c .found2 .result) (d .0) (d .1) (d .2) (a .length) (a .amount) _ (now (a .indices)) _ (now (a .scratch)) _ (r .ensures)
     ∙ sym (in-place (a .length) (a .amount) (a .budget) (a .rng) (now (a .indices)) (now (a .scratch)) (fit m) due (omega arith))
 
 same-length-4 : tie.Need-same-length-4
@@ -163,8 +165,8 @@ returns-8 c =
     let a = begun (tested m) .args in
     let due = sym (m .choose-method .ensures) ∙ rejection-due c .enum-told3 .given .1 in
     let r = c .before .before .before .sample-rejection in
-    let d = c .found .ensures in
-    rejection-done (foundOf (a .length) (a .amount) (a .budget) (a .rng)) (r .result) (c .found .result) (now (a .indices)) _ (now (a .scratch)) (r .ensures) (d .0) (d .1) (d .2)
+    let d = c .found3 .ensures in
+    rejection-done (r .result) (c .found3 .result) (d .0) (d .1) (d .2) (foundOf (a .length) (a .amount) (a .budget) (a .rng)) (now (a .indices)) _ (now (a .scratch)) (r .ensures)
     ∙ sym (rejection (a .length) (a .amount) (a .budget) (a .rng) (now (a .indices)) (now (a .scratch)) (fit m) due)
 
 pub sample-spec : {M : Type 1} → statement M
@@ -185,15 +187,15 @@ sample-spec =
     choose-method-requires
     enum-told
     sample-floyd-requires
-    drawn-requires
+    found-requires
     enum-told-2
     refused-requires-5
     returns-5
     sample-inplace-requires
-    drawn-requires-2
+    found-requires-2
     enum-told-3
     sample-rejection-requires
-    found-requires
+    found-requires-3
     same-length
     returns-6
     same-length-2

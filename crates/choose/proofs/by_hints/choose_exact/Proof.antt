@@ -30,8 +30,8 @@ returns-2 c =
 cast-range : tie.Need-cast-range
 cast-range c = search needs
 
-random-range-within-requires : tie.Need-random-range-within-requires
-random-range-within-requires c κs = search needs
+random-range-requires : tie.Need-random-range-requires
+random-range-requires c κs = search needs
 
 enum-known-draw : tie.Need-enum-known-draw
 enum-known-draw c = search needs
@@ -45,7 +45,7 @@ ended-requires-3 c κs = search needs
 returns-3 : tie.Need-returns-3
 returns-3 c =
     let a = c .before .before .before .before .before .before .before .before .args in
-    let d = c .before .before .before .before .random-range-within in
+    let d = c .before .before .before .before .random-range in
     rw (c .ended3 .ensures) (sym (exact-spent (a .budget) (now (a .items)) (length (now (a .items))) (a .rng) (omega arith) (d .result) (d .ensures) (c .before .enum-told .given .1)))
 
 cast-place : tie.Need-cast-place
@@ -57,7 +57,7 @@ mul-item c = search needs
 shared-slice-read-item : tie.Need-shared-slice-read-item
 shared-slice-read-item c =
     let a = c .before .before .before .before .before .before .before .before .before .args in
-    let d = c .before .before .before .before .before .random-range-within in
+    let d = c .before .before .before .before .before .random-range in
     let v = c .before .before .draw .given in
     exact-below (a .budget) (now (a .items)) (length (now (a .items))) (a .rng) (omega arith) (d .result) (d .ensures) (v .0 .0) (v .1)
 
@@ -67,7 +67,7 @@ ended-requires-4 c κs = search needs
 returns-4 : tie.Need-returns-4
 returns-4 c =
     let a = c .before .before .before .before .before .before .before .before .before .before .args in
-    let d = c .before .before .before .before .before .before .random-range-within in
+    let d = c .before .before .before .before .before .before .random-range in
     let v = c .before .before .before .draw .given in
     rw (c .ended4 .ensures) (sym (exact-item (a .budget) (now (a .items)) (length (now (a .items))) (a .rng) (omega arith) (d .result) (d .ensures) (v .0 .0) (v .1)))
 
@@ -81,7 +81,7 @@ choose-exact-spec =
     ended-requires-2
     returns-2
     cast-range
-    random-range-within-requires
+    random-range-requires
     enum-known-draw
     enum-told
     ended-requires-3

@@ -12,8 +12,8 @@ cast-consumed c = search needs
 add-range : tie.Need-add-range
 add-range c = search needs
 
-random-range-within-requires : tie.Need-random-range-within-requires
-random-range-within-requires c κs = search needs
+random-range-requires : tie.Need-random-range-requires
+random-range-requires c κs = search needs
 
 after-draw-requires : tie.Need-after-draw-requires
 after-draw-requires c κs = search needs
@@ -28,7 +28,7 @@ returns : tie.Need-returns
 returns c =
     let s = c .before .before .before .before .before .before .before in
     let a = s .args in
-    let d = c .before .before .before .before .random-range-within in
+    let d = c .before .before .before .before .random-range in
     rw (c .before .before .after-draw .ensures) (
       draw-spent (a .budget) (a .least) (a .at) (now (a .items)) (a .held) (a .flipper) (d .result) (d .ensures) (c .enum-told .given .1),
       held-drawn (a .budget) (a .least) (a .at) (now (a .items)) (a .held) (a .flipper) (d .result) (d .ensures) (s .pre .0),
@@ -38,7 +38,7 @@ returns-2 : tie.Need-returns-2
 returns-2 c =
     let s = c .before .before .before .before .before .before .before .before .before in
     let a = s .args in
-    let d = c .before .before .before .before .before .before .random-range-within in
+    let d = c .before .before .before .before .before .before .random-range in
     let v = c .before .before .draw .given in
     rw (c .before .before .before .before .after-draw .ensures) (
       draw-left (a .budget) (a .least) (a .at) (now (a .items)) (a .held) (a .flipper) (d .result) (d .ensures) (v .0 .0) (v .1) (omega arith),
@@ -55,7 +55,7 @@ returns-3 : tie.Need-returns-3
 returns-3 c =
     let s = c .before .before .before .before .before .before .before .before .before in
     let a = s .args in
-    let d = c .before .before .before .before .before .before .random-range-within in
+    let d = c .before .before .before .before .before .before .random-range in
     let v = c .before .before .draw .given in
     rw (c .before .before .before .before .after-draw .ensures) (
       draw-taken (a .budget) (a .least) (a .at) (now (a .items)) (a .held) (a .flipper) (d .result) (d .ensures) (v .0 .0) (v .1) (omega arith) (omega arith),
@@ -68,7 +68,7 @@ by-draw-spec =
     (tie.spec
     cast-consumed
     add-range
-    random-range-within-requires
+    random-range-requires
     after-draw-requires
     enum-known-draw
     enum-told

@@ -13,8 +13,8 @@ cast-range c = search needs
 number-requires-2 : tie.Need-number-requires-2
 number-requires-2 c κs = tt
 
-random-range-within-requires : tie.Need-random-range-within-requires
-random-range-within-requires c κs = search needs
+random-range-requires : tie.Need-random-range-requires
+random-range-requires c κs = search needs
 
 drawn-requires : tie.Need-drawn-requires
 drawn-requires c κs = tt
@@ -22,7 +22,7 @@ drawn-requires c κs = tt
 returns : tie.Need-returns
 returns c =
     let d = c .before in
-    bounded-told _ _ _ _ _ _ (d .before .before .number .ensures) (d .before .number2 .ensures) (d .random-range-within .ensures) (c .drawn .ensures)
+    bounded-told _ _ _ _ _ _ (d .before .before .number .ensures) (d .before .number2 .ensures) (d .random-range .ensures) (c .drawn .ensures)
 
 pub random-range-spec : {M : Type 1} → statement M
 random-range-spec =
@@ -31,6 +31,6 @@ random-range-spec =
     number-requires
     cast-range
     number-requires-2
-    random-range-within-requires
+    random-range-requires
     drawn-requires
     returns)

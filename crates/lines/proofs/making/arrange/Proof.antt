@@ -56,7 +56,7 @@ returns-3 c =
     let s = c .before .before in
     let m = s .before .before in
     let a = m .before .before .before .before .args in
-    λ y z more less. rw (means-7 (a .call) (m .match .keys3) _ _ _) (s .wholly .ensures _ (length (now (a .b))) y z)
+    λ y z more less. rw (means-7 (a .call) (m .match .keys3) _ _ _) (s .wholly .ensures (length (now (a .b))) y z)
 
 same-length-5 : tie.Need-same-length-5
 same-length-5 c = search needs
@@ -89,7 +89,7 @@ returns-6 c =
     let s = c .before .before .before .before in
     let m = s .before .before .before in
     let k = m .before .before .before .before .args .call in
-    λ y z more less. rw (means-10 k (omega (arith, more, less, behind 5 5 k more (m .match .rest))) _ _ _) (s .fill .ensures _ y z)
+    λ y z more less. rw (means-10 k (omega (arith, more, less, behind 5 5 k more (m .match .rest))) _ _ _) (s .fill .ensures y z)
 
 pub arrange-spec : {M : Type 1} → statement M
 arrange-spec =

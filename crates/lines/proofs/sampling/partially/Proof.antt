@@ -10,6 +10,9 @@ count-from-requires c κs = tt
 number-requires : tie.Need-number-requires
 number-requires c κs = tt
 
+number-requires-2 : tie.Need-number-requires-2
+number-requires-2 c κs = tt
+
 partial-shuffle-requires : tie.Need-partial-shuffle-requires
 partial-shuffle-requires c κs = tt
 
@@ -22,7 +25,9 @@ same-length c = search needs
 returns : tie.Need-returns
 returns c =
     let s = c .before .before .before .before in
-    λ x y z. partial-told _ _ _ x y z _ (s .before .before .before .before .before .count-from .ensures) (s .partial-shuffle .result) _ _ (c .shuffled .ensures) _ (s .before .number .ensures) (s .partial-shuffle .ensures)
+    let asked = s .before .before in
+    let put = asked .before .before .before .before in
+    λ x y z. partial-told _ _ _ x y z _ (put .count-from .ensures) (s .partial-shuffle .result) _ _ (c .shuffled .ensures) _ _ (asked .number .ensures) (s .before .number2 .ensures) (s .partial-shuffle .ensures)
 
 pub partially-spec : {M : Type 1} → statement M
 partially-spec =
@@ -30,6 +35,7 @@ partially-spec =
     (tie.spec
     count-from-requires
     number-requires
+    number-requires-2
     partial-shuffle-requires
     shuffled-requires
     same-length

@@ -7,6 +7,9 @@ use Rattle.lines.proofs.sampling.wholly.Tie as tie
 count-from-requires : tie.Need-count-from-requires
 count-from-requires c κs = tt
 
+number-requires : tie.Need-number-requires
+number-requires c κs = tt
+
 shuffle-requires : tie.Need-shuffle-requires
 shuffle-requires c κs = tt
 
@@ -19,8 +22,10 @@ same-length c = search needs
 returns : tie.Need-returns
 returns c =
     let s = c .before .before .before .before in
-    λ ns x y z. whole-told _ ns _ x y z _ (s .before .before .before .before .count-from .ensures) (s .shuffle .result) _ _ (c .shuffled .ensures) (s .shuffle .ensures)
+    let asked = s .before in
+    let put = asked .before .before .before .before in
+    λ x y z. whole-told _ _ _ x y z _ (put .count-from .ensures) (s .shuffle .result) _ _ (c .shuffled .ensures) _ (asked .number .ensures) (s .shuffle .ensures)
 
 pub wholly-spec : {M : Type 1} → statement M
 wholly-spec =
-    tie.close (tie.spec count-from-requires shuffle-requires shuffled-requires same-length returns)
+    tie.close (tie.spec count-from-requires number-requires shuffle-requires shuffled-requires same-length returns)
