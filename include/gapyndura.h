@@ -18,7 +18,7 @@
 
 /* The version: 1 for the base, and one more with each request (docs/requests/). A caller can test it by #if; CHANGELOG.md says what has
  * to be changed in the caller, if anything has. */
-#define GAPYNDURA_VERSION 6
+#define GAPYNDURA_VERSION 7
 
 #ifdef __cplusplus
 extern "C" {
@@ -72,7 +72,13 @@ static inline const char *gapyndura_refusal_text(uint32_t number)
     }
 }
 
-/* The generator xoshiro256++ of Blackman and Vigna is its four words of state, which the caller keeps. */
+/* The generator xoshiro256++ of Blackman and Vigna is its four words of state, which the caller keeps.
+ *
+ * A bounded draw below r is that of rand built with its feature unbiased: after k words, X being these as one number, the first word
+ * highest, its value is floor(X * r / 2^(32 * k)), and it reads on for as long as more words could change that. One word is enough but
+ * for fewer than r of the 2^32, and two but for fewer than r of the 2^64 pairs; no number of words is enough always. So every call that
+ * makes such draws takes a budget, the most words that it may read. Where a word more is needed the answer is 13: exactly budget words
+ * are read, and the call says below what is done by then. Where no word is needed there is no 13, also at a budget of 0. */
 
 /* Writes to state the generator of 32 seed bytes: four little-endian words. All-zero bytes, which make no generator, give
  * what gapyndura_seed_from_u64 gives at 0. Never declines. */
@@ -97,8 +103,8 @@ uint32_t gapyndura_next_u32(uint64_t state[4], uint64_t out[2]);
  * rand's own rule chooses among three methods by length and amount. Amounts below 12: Floyd's. 12 to 162: the one in place at
  * small lengths (to 350 for 12, to 43610 for 162), else Floyd's. From 163 on: the one in place where length is below some 270
  * times the amount (37 times, from length 500000 on), else the one by rejection. The method in place needs length entries of
- * scratch, the others none. The one by rejection is the only one that could read words for ever, and the only one that heeds
- * budget, the most words that it may read. Its filter is a local array: a call uses some 40 KiB of stack.
+ * scratch, the others none. budget is the most words that the call may read, by any method. The filter of the one by rejection is a
+ * local array: a call uses some 40 KiB of stack.
  *
  * Answers 0 where the sample is drawn, else the number of the first cause here that applies:
  *   12  all four words of state are 0: that is no generator
@@ -106,15 +112,21 @@ uint32_t gapyndura_next_u32(uint64_t state[4], uint64_t out[2]);
  *    1  amount is above length
  *    8  indices_len is below amount
  *    9  the method in place is due, and scratch_len is below length
- *   13  the method by rejection needs a word more than budget
+ *   13  a word is needed, and budget words are read
  *
  * On every answer:
  *   state    is the generator after the words read;
  *   out[0]   is the words read: 0 on a refusal other than 13, exactly budget on 13;
- *   out[1]   is the count of indices written: amount on 0, those found on 13, 0 on other refusals;
- *   indices  has out[1] indices at its front, in the order drawn, and is unchanged behind them;
+ *   out[1]   is the count of indices written: amount on 0, 0 on refusals other than 13;
+ *   indices  has out[1] indices at its front and is unchanged behind them: the sample in the order drawn on 0;
  *   scratch  is unchanged, but where the method in place has drawn: then its first length entries are all the indices below
  *            length as they were exchanged, the first amount of them the sample, and it is unchanged behind them.
+ *
+ * What 13 leaves, by method:
+ *   Floyd's       out[1] is the count of finished draws, and indices has as many entries as these have left them. They are distinct,
+ *                 but a later draw could still have replaced one: they are not the front of the sample that more words would give.
+ *   in place      out[1] is 0 and indices is unchanged; scratch is as the finished exchanges have arranged it, also where that is none.
+ *   by rejection  out[1] is the count of indices found, which are the front of the sample that more words would give.
  *
  * No pointer is null, scratch neither where scratch_len is 0, nor indices where indices_len is 0. */
 uint32_t gapyndura_sample(uint64_t state[4], uint64_t length, uint64_t amount, uint64_t budget,
@@ -124,43 +136,52 @@ uint32_t gapyndura_sample(uint64_t state[4], uint64_t length, uint64_t amount, u
  * that tail starts. The items before n are the others, in an order that is not shuffled. A caller has both parts by n and the
  * slice: the tail is items + n, len - n entries; the head is items, n entries.
  *
+ * One bounded draw serves up to 12 exchanges, and budget is the most words that the draws may read. An amount of 0, and a whole
+ * shuffle of fewer than two items, need none.
+ *
  * Answers 0 where the shuffle is done, else the number of the first cause here that applies:
  *   12  all four words of state are 0: that is no generator
  *   10  len is above 2^32 - 2
+ *   13  a word is needed, and budget words are read
  *
  * On every answer:
  *   state    is the generator after the words read;
- *   out[0]   is the words read: 0 on a refusal;
- *   out[1]   is n on 0, and 0 on a refusal;
- *   items    has the same entries as before: rearranged on 0, unchanged on a refusal.
+ *   out[0]   is the words read: 0 on a refusal other than 13, exactly budget on 13;
+ *   out[1]   is n on 0, and 0 on a refusal, on 13 too;
+ *   items    has the same entries as before. On 0 they are rearranged. On 13 all exchanges are done that come before the unfinished
+ *            draw, those of every finished draw among them. On other refusals they are unchanged.
  *
- * A refusal reads nothing and changes nothing. No pointer is null, items neither where len is 0. */
-uint32_t gapyndura_partial_shuffle(uint64_t state[4], uint32_t *items, size_t len, uint64_t amount, uint64_t out[2]);
+ * A refusal other than 13 reads nothing and changes nothing. No pointer is null, items neither where len is 0. */
+uint32_t gapyndura_partial_shuffle(uint64_t state[4], uint32_t *items, size_t len, uint64_t amount, uint64_t budget,
+                                   uint64_t out[2]);
 
 /* Shuffles all of the len items: gapyndura_partial_shuffle with len as the amount. Fewer than two items are left as they are, and
  * no word is read for them.
  *
- * Answers 0, 12 or 10, and writes state, out and items, as gapyndura_partial_shuffle does; so out[1], which is n, is 0 on every
- * answer. A refusal reads nothing and changes nothing. No pointer is null, items neither where len is 0. */
-uint32_t gapyndura_shuffle(uint64_t state[4], uint32_t *items, size_t len, uint64_t out[2]);
+ * Answers 0, 12, 10 or 13, and writes state, out and items, as gapyndura_partial_shuffle does; so out[1], which is n, is 0 on every
+ * answer. A refusal other than 13 reads nothing and changes nothing. No pointer is null, items neither where len is 0. */
+uint32_t gapyndura_shuffle(uint64_t state[4], uint32_t *items, size_t len, uint64_t budget, uint64_t out[2]);
 
 /* Fills buf with a sample of as many items as it has entries, or with all items where they are fewer. The order in buf is neither
  * that of the items nor random. Words are read for each item past buf_len, also where buf_len is 0; for fewer items none is read.
+ * budget is the most words that the call may read.
  *
  * Answers 0 where buf is filled, else the number of the first cause here that applies:
  *   12  all four words of state are 0: that is no generator
  *   10  items_len is above 2^32 - 2; buf_len may be any
+ *   13  a word is needed, and budget words are read
  *
  * On every answer:
  *   state    is the generator after the words read;
- *   out[0]   is the words read: 0 on a refusal;
- *   out[1]   is the count of entries of buf that are filled: the lesser of items_len and buf_len on 0, and 0 on a refusal;
- *   buf      has out[1] items at its front, and is unchanged behind them.
+ *   out[0]   is the words read: 0 on a refusal other than 13, exactly budget on 13;
+ *   out[1]   is the count of entries of buf that are filled: the lesser of items_len and buf_len on 0, and 0 on a refusal, on 13 too;
+ *   buf      has out[1] items at its front on 0, and is unchanged behind them. On 13 it has the first buf_len items, with those in
+ *            place of some that the draws before the unfinished one have put there. On other refusals it is unchanged.
  *
- * A refusal reads nothing and changes nothing. No pointer is null, items neither where items_len is 0, nor buf where buf_len
- * is 0. */
+ * A refusal other than 13 reads nothing and changes nothing. No pointer is null, items neither where items_len is 0, nor buf where
+ * buf_len is 0. */
 uint32_t gapyndura_sample_fill(uint64_t state[4], const uint32_t *items, size_t items_len,
-                               uint32_t *buf, size_t buf_len, uint64_t out[2]);
+                               uint32_t *buf, size_t buf_len, uint64_t budget, uint64_t out[2]);
 
 /* A table of weights is a record, table = { count, total }, and the running sums of all weights but the last, which the caller
  * keeps at the front of a slice cumulative_weights: entry i adds weights 0 to i, so there are count - 1 of them, and the total adds

@@ -9,12 +9,12 @@
 
 #include <gapyndura.h>
 
-/* The calls are made as version 6 has them; CHANGELOG.md says what a later one changes. */
-#if GAPYNDURA_VERSION != 6
-#error "this program is written for version 6 of gapyndura.h"
+/* The calls are made as version 7 has them; CHANGELOG.md says what a later one changes. */
+#if GAPYNDURA_VERSION != 7
+#error "this program is written for version 7 of gapyndura.h"
 #endif
 
-/* The most words that a call may read which could else read on for ever. */
+/* The most words that a call may read: each that draws could else read on for ever. */
 #define BUDGET 1000
 
 /* Ends the program where a call that must be carried out was not. */
@@ -42,7 +42,7 @@ static void sample_and_shuffle(uint64_t state[4])
     uint64_t out[2];
     must("sample", gapyndura_sample(state, 100, 5, BUDGET, closings, 5, scratch, 0, out));
     print_list("closings", closings, out[1], out[0]);
-    must("shuffle", gapyndura_shuffle(state, closings, 5, out));
+    must("shuffle", gapyndura_shuffle(state, closings, 5, BUDGET, out));
     print_list("in the order", closings, 5, out[0]);
 }
 
@@ -60,9 +60,9 @@ static void share_out_staffs(uint64_t state[4])
 {
     uint32_t staffs[5] = {11, 12, 13, 14, 15}, kept[3];
     uint64_t out[2];
-    must("fill", gapyndura_sample_fill(state, staffs, 5, kept, 3, out));
+    must("fill", gapyndura_sample_fill(state, staffs, 5, kept, 3, BUDGET, out));
     print_list("three staffs", kept, out[1], out[0]);
-    must("partial shuffle", gapyndura_partial_shuffle(state, staffs, 5, 2, out));
+    must("partial shuffle", gapyndura_partial_shuffle(state, staffs, 5, 2, BUDGET, out));
     print_list("two staffs", staffs + out[1], 5 - out[1], out[0]);
 }
 

@@ -11,10 +11,10 @@ use gapyndura::iterator::{choose, choose_stable, sample_fill};
 use gapyndura::slice::{partial_shuffle, shuffle};
 use gapyndura::{Refusal, WeightedIndex, Xoshiro256PlusPlus};
 
-/// The calls are made as version 6 has them; `CHANGELOG.md` says what a later one changes.
-const _: () = assert!(gapyndura::VERSION == 6);
+/// The calls are made as version 7 has them; `CHANGELOG.md` says what a later one changes.
+const _: () = assert!(gapyndura::VERSION == 7);
 
-/// The most words that a call may read which could else read on for ever.
+/// The most words that a call may read: each that draws could else read on for ever.
 const BUDGET: u64 = 1000;
 
 fn print_list(title: &str, list: &[u32], words: u64) {
@@ -30,7 +30,7 @@ fn sample_and_shuffle(rng: &mut Xoshiro256PlusPlus) -> Result<(), Box<dyn Error>
     let mut closings = [0; 5];
     let sampled = sample(rng, 100, 5, BUDGET, &mut closings, &mut [])?;
     print_list("closings", &closings[..sampled.count], sampled.words);
-    let shuffled = shuffle(rng, &mut closings)?;
+    let shuffled = shuffle(rng, &mut closings, BUDGET)?;
     print_list("in the order", shuffled.tail, shuffled.words);
     Ok(())
 }
@@ -47,9 +47,9 @@ fn sample_in_place(rng: &mut Xoshiro256PlusPlus) -> Result<(), Box<dyn Error>> {
 fn share_out_staffs(rng: &mut Xoshiro256PlusPlus) -> Result<(), Refusal> {
     let mut staffs = [11, 12, 13, 14, 15];
     let mut kept = [0; 3];
-    let filled = sample_fill(rng, &staffs, &mut kept)?;
+    let filled = sample_fill(rng, &staffs, &mut kept, BUDGET)?;
     print_list("three staffs", &kept[..filled.count], filled.words);
-    let shuffled = partial_shuffle(rng, &mut staffs, 2)?;
+    let shuffled = partial_shuffle(rng, &mut staffs, 2, BUDGET)?;
     print_list("two staffs", shuffled.tail, shuffled.words);
     Ok(())
 }

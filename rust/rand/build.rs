@@ -2,7 +2,7 @@
 //!
 //! rand's `distr` names modules whose files were not delivered, and the compiler looks for a module beside the file that
 //! names it. So a folder of links is made in `OUT_DIR`, rand's files and the stubs for the missing ones side by side, and
-//! a file of module items that lead there. No file is copied.
+//! a file of module items that lead there. No file is copied. Package `rand_base` is built by this file too, without a feature.
 
 use std::env;
 use std::fs;
@@ -65,7 +65,7 @@ fn main() -> io::Result<()> {
         fs::remove_dir_all(&tree)?;
     }
     link(&source, &DELIVERED, &tree)?;
-    link(&package.join("stubs"), &STUBS, &tree)?;
+    link(&package.join("../rand/stubs"), &STUBS, &tree)?;
     fs::write(out.join("distr_and_seq.rs"), items(&tree, &MODULES[..2]))?;
     fs::write(out.join("rngs.rs"), items(&tree, &MODULES[2..]))
 }

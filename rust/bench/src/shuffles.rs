@@ -8,8 +8,9 @@ use rand::seq::{IteratorRandom, SliceRandom};
 use crate::numbers::{counting, grouped, so_many_of};
 use crate::sides::{Case, Sides, ours, theirs};
 
-/// The port refuses a generator of zeros and too long a slice.
-const DRAWN: &str = "a generator and a slice that are good";
+/// The port refuses a generator of zeros, too long a slice, and a budget that is used up: this one never is.
+const DRAWN: &str = "a generator, a slice and a budget that are good";
+const BUDGET: u64 = u64::MAX;
 
 pub fn cases() -> Vec<Case> {
     let mut cases = Vec::new();
@@ -41,7 +42,7 @@ fn shuffle(len: usize) -> Sides {
         ),
         ours(
             counting(len),
-            |rng, items| slice::shuffle(rng, items).expect(DRAWN).words,
+            |rng, items| slice::shuffle(rng, items, BUDGET).expect(DRAWN).words,
             |items, _| items.clone(),
         ),
     )
@@ -59,7 +60,7 @@ fn partial_shuffle(amount: usize, len: usize) -> Sides {
         ours(
             (counting(len), amount as u64),
             |rng, (items, amount)| {
-                black_box(slice::partial_shuffle(rng, items, *amount).expect(DRAWN));
+                black_box(slice::partial_shuffle(rng, items, *amount, BUDGET).expect(DRAWN));
             },
             |(items, _), ()| items.clone(),
         ),
@@ -76,7 +77,7 @@ fn fill(slots: usize, items: usize) -> Sides {
         ),
         ours(
             lent,
-            |rng, (items, buf)| iterator::sample_fill(rng, items, buf).expect(DRAWN),
+            |rng, (items, buf)| iterator::sample_fill(rng, items, buf, BUDGET).expect(DRAWN),
             |(_, buf), filled| (buf.clone(), filled.count),
         ),
     )

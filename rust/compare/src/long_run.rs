@@ -131,12 +131,18 @@ fn call(calls: &Calls, from: State, source: &mut Source) -> (Ended, Vec<Lent>) {
     match source.below(9) {
         0 => sampled(from, source, calls.sample),
         1 => {
-            let Shuffling { len, amount, .. } = PartialShuffle::random(source);
-            shuffled(len, |items| (calls.partial_shuffle)(from, amount, items))
+            let call = Shuffling {
+                from,
+                ..PartialShuffle::random(source)
+            };
+            shuffled(call.len, |items| (calls.partial_shuffle)(&call, items))
         }
         2 => {
-            let Whole { len, .. } = Shuffle::random(source);
-            shuffled(len, |items| (calls.shuffle)(from, items))
+            let call = Whole {
+                from,
+                ..Shuffle::random(source)
+            };
+            shuffled(call.len, |items| (calls.shuffle)(&call, items))
         }
         3 => {
             let call = Filling {

@@ -1,8 +1,8 @@
 //! Slices of about 2^32 items, which take memory only where they are touched.
 
 use reference::draws::bounded;
-use reference::filling;
-use reference::shuffling::{self, MOST_ITEMS};
+use reference::filling::{self, Filling};
+use reference::shuffling::{self, MOST_ITEMS, Shuffling, Whole};
 use reference::{State, from_state};
 
 use crate::slices::without_memory;
@@ -22,6 +22,27 @@ fn touched() -> Vec<usize> {
     places.flatten().collect()
 }
 
+/// A partial shuffle of so many items.
+fn partial(from: State, len: usize, budget: u64) -> Shuffling {
+    Shuffling {
+        from,
+        len,
+        amount: AMOUNT as u64,
+        budget,
+    }
+}
+
+/// A fill of three entries from so many items.
+fn fill_of(from: State, items_len: usize) -> Filling {
+    Filling {
+        from,
+        items_len,
+        buf_len: 3,
+        budget: 0,
+    }
+}
+
+/// With a budget that ends behind some draws as well.
 #[test]
 fn a_partial_shuffle_of_the_most_items_is_rands() {
     let [rand, port] = [(); 2].map(|()| without_memory(MOST_ITEMS));
@@ -30,13 +51,17 @@ fn a_partial_shuffle_of_the_most_items_is_rands() {
     }
     let before = touched().into_iter().map(|at| rand[at]);
     let before: Vec<u32> = before.collect();
-    let expected = shuffling::partial_shuffle(FROM, AMOUNT as u64, rand);
-    let outcome = shuffle::port::partial_shuffle(FROM, AMOUNT as u64, port);
-    assert_eq!(outcome, expected);
-    assert_eq!(outcome.0.count, (MOST_ITEMS - AMOUNT) as u64);
     let entries = |slice: &[u32]| -> Vec<u32> { touched().iter().map(|&at| slice[at]).collect() };
-    assert_eq!(entries(port), entries(rand));
-    assert_ne!(entries(port), before);
+    for budget in [9, u64::MAX] {
+        let call = partial(FROM, MOST_ITEMS, budget);
+        let expected = shuffling::partial_shuffle(&call, rand);
+        let (ended, parts) = shuffle::port::partial_shuffle(&call, port);
+        let n = if budget == 9 { 0 } else { MOST_ITEMS - AMOUNT };
+        assert_eq!(ended.count, n as u64);
+        assert_eq!((ended, parts), expected);
+        assert_eq!(entries(port), entries(rand));
+        assert_ne!(entries(port), before);
+    }
 }
 
 #[test]
@@ -45,30 +70,39 @@ fn one_item_more_is_refused() {
     let last = items.len() - 1;
     items[0] = 1;
     items[last] = 2;
+    let whole = Whole {
+        from: FROM,
+        len: items.len(),
+        budget: 0,
+    };
     for outcome in [
-        shuffle::port::partial_shuffle(FROM, 5, items),
-        shuffle::port::shuffle(FROM, items),
+        shuffle::port::partial_shuffle(&partial(FROM, last + 1, 0), items),
+        shuffle::port::shuffle(&whole, items),
     ] {
         let (ended, parts) = outcome;
         assert_eq!((ended.number, ended.words, ended.state), (10, 0, FROM));
         assert_eq!(parts, None);
     }
     let mut buf = [7; 3];
-    let ended = fill::port::sample_fill(FROM, items, &mut buf);
+    let ended = fill::port::sample_fill(&fill_of(FROM, items.len()), items, &mut buf);
     assert_eq!((ended.number, ended.words, ended.state), (10, 0, FROM));
     assert_eq!((buf, items[0], items[last]), ([7; 3], 1, 2));
     // No generator at all is told first.
-    let (ended, _) = shuffle::port::partial_shuffle([0; 4], 5, items);
+    let (ended, _) = shuffle::port::partial_shuffle(&partial([0; 4], last + 1, 0), items);
     assert_eq!(ended.number, 12);
-    let ended = fill::port::sample_fill([0; 4], items, &mut buf);
+    let ended = fill::port::sample_fill(&fill_of([0; 4], items.len()), items, &mut buf);
     assert_eq!(ended.number, 12);
 }
 
 #[test]
 fn a_buffer_may_have_any_length() {
     let [rand, port] = [(); 2].map(|()| without_memory((1 << 32) + 9));
-    let expected = filling::sample_fill(FROM, &[5, 6, 7], rand);
-    assert_eq!(fill::port::sample_fill(FROM, &[5, 6, 7], port), expected);
+    let call = Filling {
+        buf_len: rand.len(),
+        ..fill_of(FROM, 3)
+    };
+    let expected = filling::sample_fill(&call, &[5, 6, 7], rand);
+    assert_eq!(fill::port::sample_fill(&call, &[5, 6, 7], port), expected);
     assert_eq!((expected.count, expected.words), (3, 0));
     assert_eq!(port[..5], [5, 6, 7, 0, 0]);
 }

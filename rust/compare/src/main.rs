@@ -7,6 +7,7 @@ mod arguments;
 mod book;
 mod child;
 mod choose;
+mod draw_faults;
 mod fill;
 mod inputs;
 mod kind;

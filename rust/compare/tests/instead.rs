@@ -119,7 +119,7 @@ fn an_iterator_s_sample_is_a_fill() {
             let rand = counted(from, |rng| items.iter().copied().sample(rng, amount));
             let port = ours(from, |rng| {
                 let mut buf = vec![0; amount];
-                let filled = sample_fill(rng, &items, &mut buf).unwrap();
+                let filled = sample_fill(rng, &items, &mut buf, BUDGET).unwrap();
                 buf.truncate(filled.count);
                 (buf, filled.words)
             });
@@ -201,12 +201,18 @@ fn the_small_generator_is_this_one() {
     for seed in 0..40 {
         let (mut items, mut same): (Vec<u32>, Vec<u32>) = ((0..100).collect(), (0..100).collect());
         items.shuffle(&mut SmallRng::seed_from_u64(seed));
-        shuffle(&mut Xoshiro256PlusPlus::seed_from_u64(seed), &mut same).unwrap();
+        shuffle(
+            &mut Xoshiro256PlusPlus::seed_from_u64(seed),
+            &mut same,
+            BUDGET,
+        )
+        .unwrap();
         assert_eq!(items, same);
         items.shuffle(&mut SmallRng::from_seed([seed as u8; 32]));
         shuffle(
             &mut Xoshiro256PlusPlus::from_seed([seed as u8; 32]),
             &mut same,
+            BUDGET,
         )
         .unwrap();
         assert_eq!(items, same);

@@ -12,6 +12,21 @@ const FAULTS: [&str; 6] = [
     "weight-beyond",
 ];
 
+/// Faults of bounded draws that read on, and of calls that use their budget up.
+const OF_BUDGETS: [&str; 11] = [
+    "second-word",
+    "first-low-kept",
+    "stops-at-largest",
+    "third-untested",
+    "spent-early",
+    "spent-unneeded",
+    "spent-unadvanced",
+    "floyd-spent-undone",
+    "in-place-spent-copied",
+    "chunk-spent-undone",
+    "fill-spent-counted",
+];
+
 /// A program that gives back the lines behind the class.
 const ECHO: &str = concat!(env!("CARGO_MANIFEST_DIR"), "/tests/echo");
 
@@ -20,20 +35,37 @@ fn compare(words: &[&str]) -> Output {
     command.args(words).output().expect("compare runs")
 }
 
+/// What a run with a fault planted tells, which ends with a difference.
+fn told(fault: &str, seed: &str) -> String {
+    let output = compare(&["--plant", fault, "--seed", seed, "--calls", "1000"]);
+    let text = String::from_utf8_lossy(&output.stdout).into_owned();
+    assert_eq!(output.status.code(), Some(1), "{fault}: {text}");
+    let last = text.lines().last().unwrap_or_default();
+    assert!(
+        last.ends_with(" differ") && !last.ends_with(" 0 differ"),
+        "{last}"
+    );
+    text
+}
+
 #[test]
 fn a_planted_fault_is_told_and_ends_with_status_1() {
     for fault in FAULTS {
         for seed in ["1", "2", "3"] {
-            let output = compare(&["--plant", fault, "--seed", seed, "--calls", "1000"]);
-            let text = String::from_utf8_lossy(&output.stdout);
-            assert_eq!(output.status.code(), Some(1), "{fault}: {text}");
+            let text = told(fault, seed);
             assert!(text.contains("the smallest input found"), "{text}");
-            let last = text.lines().last().unwrap_or_default();
-            assert!(
-                last.ends_with(" differ") && !last.ends_with(" 0 differ"),
-                "{last}"
-            );
         }
+    }
+}
+
+/// Every kind of call that can have such a fault tells of it.
+#[test]
+fn a_fault_of_budgets_is_told_by_each_kind_that_has_it() {
+    for fault in OF_BUDGETS {
+        let text = told(fault, "1");
+        let kinds = text.matches(" calls\n").count();
+        let found = text.matches("the smallest input found").count();
+        assert!(kinds > 0 && kinds == found, "{fault}: {text}");
     }
 }
 
@@ -53,7 +85,7 @@ fn a_program_that_differs_is_told_with_the_smallest_lines() {
     assert_eq!(output.status.code(), Some(1), "{text}");
     for line in [
         "seed 0",
-        "shuffle 0 0",
+        "shuffle 0 0 0",
         "pick 0 0 0 0 0 0",
         "choose 0 0 0 0",
     ] {
@@ -123,7 +155,7 @@ fn programs_of_draw_books_that_differ_are_told() {
 fn a_fault_that_cannot_be_planted_ends_with_status_2() {
     for fault in [
         "no-such-fault",
-        "second-word",
+        "threshold",
         "answer-digest",
         "word-more",
         "file-order",

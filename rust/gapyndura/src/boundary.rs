@@ -25,12 +25,14 @@ unsafe extern "C" {
         items: *mut u32,
         len: usize,
         amount: u64,
+        budget: u64,
         out: &mut [u64; 2],
     ) -> u32;
     pub fn gapyndura_shuffle(
         state: &mut [u64; 4],
         items: *mut u32,
         len: usize,
+        budget: u64,
         out: &mut [u64; 2],
     ) -> u32;
     pub fn gapyndura_sample_fill(
@@ -39,6 +41,7 @@ unsafe extern "C" {
         items_len: usize,
         buf: *mut u32,
         buf_len: usize,
+        budget: u64,
         out: &mut [u64; 2],
     ) -> u32;
     pub fn gapyndura_weights_new(

@@ -22,7 +22,7 @@ pub struct Sampled {
 pub struct SampleError {
     /// The cause.
     pub refusal: Refusal,
-    /// The indices found so far and the words read for them.
+    /// The indices written so far and the words read for them.
     pub so_far: Sampled,
 }
 
@@ -31,7 +31,7 @@ impl fmt::Display for SampleError {
         self.refusal.fmt(f)?;
         if self.refusal == Refusal::BudgetExhausted {
             let Sampled { count, words } = self.so_far;
-            write!(f, ": {count} indices found in {words} words")?;
+            write!(f, ": {count} indices written in {words} words")?;
         }
         Ok(())
     }
@@ -49,15 +49,14 @@ impl From<SampleError> for Refusal {
 /// Draws `amount` distinct indices below `length`, in random order, to the front of `indices`.
 ///
 /// The indices, and the words read for them, are those of rand's `seq::index::sample`, which gives no sample more or less
-/// than its share. Entries of `indices` past the amount never change.
+/// than its share. Entries of `indices` past the amount never change. `budget` is the most words that the call may read.
 ///
 /// rand's rule chooses among three methods by length and amount:
 ///
 /// - Floyd's, for amounts below 12, and below 163 where the length is large for the amount;
 /// - the one in place, where the length is small for the amount. It needs `length` entries of `scratch` and leaves there
 ///   all indices below `length` as it has arranged them. Entries past the length never change;
-/// - the one by rejection, for amounts from 163 on where the length is large for the amount. It stops when `budget` words
-///   are read; the other two read no budget. A call uses some 40 KiB of stack.
+/// - the one by rejection, for amounts from 163 on where the length is large for the amount. A call uses some 40 KiB of stack.
 ///
 /// Only the method in place changes `scratch`.
 ///
@@ -79,8 +78,15 @@ impl From<SampleError> for Refusal {
 /// The first of these that applies: [`ZeroState`](Refusal::ZeroState); [`TooLong`](Refusal::TooLong), for a length above
 /// 2^32 - 1; [`AmountExceedsLength`](Refusal::AmountExceedsLength); [`SliceTooShort`](Refusal::SliceTooShort), for fewer
 /// entries of `indices` than the amount; [`ScratchTooShort`](Refusal::ScratchTooShort), only where the method in place is
-/// due; and [`BudgetExhausted`](Refusal::BudgetExhausted), where the method by rejection needs a word more than `budget`.
-/// Then exactly `budget` words are read, and the indices found stand at the front of `indices`, in order.
+/// due; and [`BudgetExhausted`](Refusal::BudgetExhausted), where `budget` words are read and one more is needed. With the last
+/// of them exactly `budget` words are read, and what was done by then is left, by the method:
+///
+/// - Floyd's leaves as many indices as draws were finished, as these have left them. A later draw could still have replaced one:
+///   they are not the front of the sample that more words would give;
+/// - the one in place leaves `indices` unchanged, so its count is 0, and `scratch` as the finished exchanges have arranged it;
+/// - the one by rejection leaves the indices found, in order, which are the front of the sample that more words would give.
+///
+/// With the others no word is read and no slice changed.
 ///
 /// ```
 /// use gapyndura::{Refusal, Xoshiro256PlusPlus};
@@ -94,7 +100,15 @@ impl From<SampleError> for Refusal {
 /// assert_eq!(error.so_far.count, 7);
 /// assert_eq!(indices[7..], [0; 193]);
 ///
-/// let error = sample(&mut rng, 200, 200, 0, &mut indices, &mut [0; 199]).unwrap_err();
+/// // In place: three exchanges are done, and no index is written.
+/// let (mut indices, mut scratch) = ([9; 20], [0; 20]);
+/// let error = sample(&mut rng, 20, 20, 3, &mut indices, &mut scratch).unwrap_err();
+/// assert_eq!((error.refusal, error.so_far.count), (Refusal::BudgetExhausted, 0));
+/// assert_eq!(indices, [9; 20]);
+/// scratch.sort_unstable();
+/// assert!(scratch.into_iter().eq(0..20));
+///
+/// let error = sample(&mut rng, 20, 20, 0, &mut indices, &mut [0; 19]).unwrap_err();
 /// assert_eq!(error.refusal, Refusal::ScratchTooShort);
 /// ```
 #[inline]

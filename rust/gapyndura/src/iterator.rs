@@ -19,11 +19,40 @@ pub struct Filled {
     pub words: u64,
 }
 
+/// Why a buffer is not filled, and the words read before that was seen.
+#[derive(Clone, Copy, Debug, PartialEq, Eq, Hash)]
+pub struct FillError {
+    /// The cause.
+    pub refusal: Refusal,
+    /// The words read: the budget with [`BudgetExhausted`](Refusal::BudgetExhausted), else none.
+    pub words: u64,
+}
+
+impl fmt::Display for FillError {
+    fn fmt(&self, f: &mut fmt::Formatter<'_>) -> fmt::Result {
+        self.refusal.fmt(f)?;
+        if self.refusal == Refusal::BudgetExhausted {
+            write!(f, ": not all items are read in {} words", self.words)?;
+        }
+        Ok(())
+    }
+}
+
+impl Error for FillError {}
+
+impl From<FillError> for Refusal {
+    /// The cause alone.
+    fn from(error: FillError) -> Self {
+        error.refusal
+    }
+}
+
 /// Fills `buf` with a sample of as many items as it has entries, or with all items where they are fewer.
 ///
 /// The items, and the words read for them, are those of rand's `IteratorRandom::sample_fill`, which gives no set of items more
 /// or less than its share. The order in the buffer is neither that of the items nor random. Entries past the count never
-/// change. Words are read for each item past the buffer's length, also where the buffer is empty.
+/// change. Words are read for each item past the buffer's length, also where the buffer is empty. `budget` is the most words that
+/// the call may read.
 ///
 /// ```
 /// use gapyndura::Xoshiro256PlusPlus;
@@ -32,21 +61,24 @@ pub struct Filled {
 /// let mut rng = Xoshiro256PlusPlus::seed_from_u64(1);
 /// let items = [10, 20, 30, 40, 50];
 /// let mut buf = [0; 2];
-/// let filled = sample_fill(&mut rng, &items, &mut buf)?;
+/// let filled = sample_fill(&mut rng, &items, &mut buf, u64::MAX)?;
 /// assert_eq!((filled.count, filled.words), (2, 3));
 /// assert!(buf.iter().all(|item| items.contains(item)));
 ///
 /// let mut buf = [0; 7];
-/// let filled = sample_fill(&mut rng, &items, &mut buf)?;
+/// let filled = sample_fill(&mut rng, &items, &mut buf, 0)?;
 /// assert_eq!((filled.count, filled.words), (5, 0));
 /// assert_eq!(buf, [10, 20, 30, 40, 50, 0, 0]);
-/// # Ok::<(), gapyndura::Refusal>(())
+/// # Ok::<(), gapyndura::iterator::FillError>(())
 /// ```
 ///
 /// # Errors
 ///
 /// The first of these that applies: [`ZeroState`](Refusal::ZeroState); [`TooLong`](Refusal::TooLong), for more than
-/// 2^32 - 2 items. Then no word is read and the buffer is unchanged. A buffer of any length is good.
+/// 2^32 - 2 items; and [`BudgetExhausted`](Refusal::BudgetExhausted), where `budget` words are read and one more is needed. With
+/// the last of them exactly `budget` words are read, and the buffer has the first items, with those in place of some that the draws
+/// before the unfinished one have put there. With the others no word is read and the buffer is unchanged. A buffer of any length is
+/// good.
 ///
 /// ```
 /// use gapyndura::{Refusal, Xoshiro256PlusPlus};
@@ -54,15 +86,22 @@ pub struct Filled {
 ///
 /// let mut rng = Xoshiro256PlusPlus::from_state([0; 4]);
 /// let mut buf = [9];
-/// assert_eq!(sample_fill(&mut rng, &[1, 2, 3], &mut buf), Err(Refusal::ZeroState));
+/// let error = sample_fill(&mut rng, &[1, 2, 3], &mut buf, 9).unwrap_err();
+/// assert_eq!((error.refusal, error.words), (Refusal::ZeroState, 0));
 /// assert_eq!(buf, [9]);
+///
+/// let mut rng = Xoshiro256PlusPlus::seed_from_u64(1);
+/// let error = sample_fill(&mut rng, &[1, 2, 3], &mut buf, 0).unwrap_err();
+/// assert_eq!((error.refusal, error.words), (Refusal::BudgetExhausted, 0));
+/// assert_eq!(buf, [1]);
 /// ```
 #[inline]
 pub fn sample_fill(
     rng: &mut Xoshiro256PlusPlus,
     items: &[u32],
     buf: &mut [u32],
-) -> Result<Filled, Refusal> {
+    budget: u64,
+) -> Result<Filled, FillError> {
     let mut out = [0; 2];
     // SAFETY: the pointer of a slice is not null, also where the slice is empty, is aligned, and is good for the slice's
     // length. All that is written is borrowed for that, hence overlaps nothing.
@@ -73,11 +112,17 @@ pub fn sample_fill(
             items.len(),
             buf.as_mut_ptr(),
             buf.len(),
+            budget,
             &mut out,
         )
     };
-    Refusal::check(number)?;
     let [words, count] = out;
+    if number != 0 {
+        return Err(FillError {
+            refusal: Refusal::from_number(number),
+            words,
+        });
+    }
     Ok(Filled {
         // No more than the slice has entries.
         count: count as usize,

@@ -25,17 +25,17 @@
 //!
 //! # The calls
 //!
-//! Each draws what rand draws from the same state, word for word.
+//! Each draws what rand, built with its feature `unbiased`, draws from the same state, word for word.
 //!
 //! | Call | In rand | Reads at most |
 //! |---|---|---|
 //! | [`Xoshiro256PlusPlus::from_seed`], [`seed_from_u64`](Xoshiro256PlusPlus::seed_from_u64) | `SeedableRng` for `Xoshiro256PlusPlus`, and for `SmallRng` on a 64-bit target | no word |
 //! | [`Xoshiro256PlusPlus::next_u32`] | `Rng::next_u32` | one word |
-//! | [`index::sample`] | `seq::index::sample` | `budget` words by rejection, else two for each index |
-//! | [`slice::partial_shuffle`] | `SliceRandom::partial_shuffle` | two words for each item shuffled |
-//! | [`slice::shuffle`] | `SliceRandom::shuffle` | two words for each item |
-//! | [`slice::sample`] | `IndexedRandom::sample` | as [`index::sample`] |
-//! | [`iterator::sample_fill`] | `IteratorRandom::sample_fill` | two words for each item past the buffer |
+//! | [`index::sample`] | `seq::index::sample` | `budget` words |
+//! | [`slice::partial_shuffle`] | `SliceRandom::partial_shuffle` | `budget` words |
+//! | [`slice::shuffle`] | `SliceRandom::shuffle` | `budget` words |
+//! | [`slice::sample`] | `IndexedRandom::sample` | `budget` words |
+//! | [`iterator::sample_fill`] | `IteratorRandom::sample_fill` | `budget` words |
 //! | [`iterator::choose`] | `IteratorRandom::choose` | `budget` words |
 //! | [`iterator::choose_stable`] | `IteratorRandom::choose_stable` | `budget` words |
 //! | [`WeightedIndex::new`] | `WeightedIndex::new` | no word |
@@ -46,9 +46,10 @@
 //! # What is declined
 //!
 //! A call is declined only for a cause of [`Refusal`], and draws otherwise. Nothing is read and nothing changed by a call that
-//! is declined, but with [`BudgetExhausted`](Refusal::BudgetExhausted): then the budget is read. So only the calls that take
-//! a budget have an error with more than the cause, [`SampleError`], [`ChooseError`] and [`PickError`]; each becomes a
-//! [`Refusal`] by `?`.
+//! is declined, but with [`BudgetExhausted`](Refusal::BudgetExhausted): then the budget is read, and each call says what was done
+//! by then. So only the calls that take a budget have an error with more than the cause, [`SampleError`], [`ShuffleError`],
+//! [`FillError`], [`ChooseError`] and [`PickError`]; each becomes a [`Refusal`] by `?`. Where no word is needed a budget of 0 is
+//! enough.
 //!
 //! # What of rand was left out
 //!
@@ -80,15 +81,15 @@ pub mod weighted_index;
 mod xoshiro256plusplus;
 
 pub use index::{SampleError, Sampled};
-pub use iterator::{ChooseError, Chosen, Filled};
+pub use iterator::{ChooseError, Chosen, FillError, Filled};
 pub use refusal::Refusal;
-pub use slice::{IndexedSamples, Shuffled, Viewed};
+pub use slice::{IndexedSamples, ShuffleError, Shuffled, Viewed};
 pub use weighted_index::{PickError, Picked, WeightedIndex};
 pub use xoshiro256plusplus::Xoshiro256PlusPlus;
 
 /// The version, which is `GAPYNDURA_VERSION` of the header: 1 for the base, and one more with each request.
 /// `CHANGELOG.md` in the repository says what a caller has to change.
-pub const VERSION: u32 = 6;
+pub const VERSION: u32 = 7;
 
 #[cfg(test)]
 mod tests {

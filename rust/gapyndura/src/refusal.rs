@@ -6,8 +6,9 @@ use core::fmt;
 /// Why a call is declined: the table of document 01, by number, and what document 02 adds to it. [`Display`](fmt::Display) says it in
 /// words. The last three are those of a draw book, which no call of this package reads: none answers them.
 ///
-/// A call that has no budget answers a refusal alone: it has then read no word and changed nothing. The error of one that has a
-/// budget also says how many words were read, and becomes a refusal where that is all that is wanted:
+/// A call that may draw more than one word has a budget, the most words that it may read. Its error also says how many words were
+/// read, and becomes a refusal where that is all that is wanted. A call that has no budget answers a refusal alone: it has then read
+/// no word and changed nothing.
 ///
 /// ```
 /// use gapyndura::{Refusal, Xoshiro256PlusPlus};
@@ -16,7 +17,7 @@ use core::fmt;
 ///
 /// fn draw(rng: &mut Xoshiro256PlusPlus, closings: &mut [u32; 3]) -> Result<(), Refusal> {
 ///     sample(rng, 2, 3, 100, closings, &mut [])?;
-///     shuffle(rng, closings)?;
+///     shuffle(rng, closings, 100)?;
 ///     Ok(())
 /// }
 /// let mut rng = Xoshiro256PlusPlus::seed_from_u64(1);

@@ -1,7 +1,6 @@
 //! Shuffles of a slice, and a view of items drawn from one, as in rand's module `slice`.
-//!
-//! A shuffle that is declined has read no word and changed nothing, so a [`Refusal`] says all of it.
 
+use core::error::Error;
 use core::fmt;
 use core::iter::FusedIterator;
 
@@ -38,10 +37,39 @@ impl<'a> Shuffled<'a> {
     }
 }
 
+/// Why a slice is not shuffled, and the words read before that was seen.
+#[derive(Clone, Copy, Debug, PartialEq, Eq, Hash)]
+pub struct ShuffleError {
+    /// The cause.
+    pub refusal: Refusal,
+    /// The words read: the budget with [`BudgetExhausted`](Refusal::BudgetExhausted), else none.
+    pub words: u64,
+}
+
+impl fmt::Display for ShuffleError {
+    fn fmt(&self, f: &mut fmt::Formatter<'_>) -> fmt::Result {
+        self.refusal.fmt(f)?;
+        if self.refusal == Refusal::BudgetExhausted {
+            write!(f, ": not all is shuffled in {} words", self.words)?;
+        }
+        Ok(())
+    }
+}
+
+impl Error for ShuffleError {}
+
+impl From<ShuffleError> for Refusal {
+    /// The cause alone.
+    fn from(error: ShuffleError) -> Self {
+        error.refusal
+    }
+}
+
 /// Shuffles `amount` of the items to the end of the slice, and lends the two parts: the tail that is shuffled, and the head.
 ///
 /// The items, and the words read for them, are those of rand's `SliceRandom::partial_shuffle`, which gives no tail more or less
-/// than its share. The tail starts at `n`, the length less the amount, or 0 where the amount is above the length.
+/// than its share. The tail starts at `n`, the length less the amount, or 0 where the amount is above the length. `budget` is the
+/// most words that the call may read; one draw serves up to 12 items.
 ///
 /// ```
 /// use gapyndura::Xoshiro256PlusPlus;
@@ -49,18 +77,20 @@ impl<'a> Shuffled<'a> {
 ///
 /// let mut rng = Xoshiro256PlusPlus::seed_from_u64(1);
 /// let mut items = [10, 20, 30, 40, 50];
-/// let shuffled = partial_shuffle(&mut rng, &mut items, 2)?;
+/// let shuffled = partial_shuffle(&mut rng, &mut items, 2, u64::MAX)?;
 /// assert_eq!((shuffled.n, shuffled.words), (3, 1));
 /// assert_eq!((shuffled.tail.len(), shuffled.head.len()), (2, 3));
 /// shuffled.tail[0] = 60;
 /// assert_eq!(items[3], 60);
-/// # Ok::<(), gapyndura::Refusal>(())
+/// # Ok::<(), gapyndura::slice::ShuffleError>(())
 /// ```
 ///
 /// # Errors
 ///
 /// The first of these that applies: [`ZeroState`](Refusal::ZeroState); [`TooLong`](Refusal::TooLong), for more than
-/// 2^32 - 2 items. Then no word is read and the slice is unchanged.
+/// 2^32 - 2 items; and [`BudgetExhausted`](Refusal::BudgetExhausted), where `budget` words are read and one more is needed. With
+/// the last of them exactly `budget` words are read, and all exchanges are done that come before the unfinished draw: the slice has
+/// the same items in another order. With the others no word is read and the slice is unchanged.
 ///
 /// ```
 /// use gapyndura::{Refusal, Xoshiro256PlusPlus};
@@ -68,7 +98,12 @@ impl<'a> Shuffled<'a> {
 ///
 /// let mut rng = Xoshiro256PlusPlus::from_state([0; 4]);
 /// let mut items = [1, 2, 3];
-/// assert_eq!(partial_shuffle(&mut rng, &mut items, 2), Err(Refusal::ZeroState));
+/// let error = partial_shuffle(&mut rng, &mut items, 2, 9).unwrap_err();
+/// assert_eq!((error.refusal, error.words), (Refusal::ZeroState, 0));
+///
+/// let mut rng = Xoshiro256PlusPlus::seed_from_u64(1);
+/// let error = partial_shuffle(&mut rng, &mut items, 2, 0).unwrap_err();
+/// assert_eq!((error.refusal, error.words), (Refusal::BudgetExhausted, 0));
 /// assert_eq!(items, [1, 2, 3]);
 /// ```
 #[inline]
@@ -76,7 +111,8 @@ pub fn partial_shuffle<'a>(
     rng: &mut Xoshiro256PlusPlus,
     items: &'a mut [u32],
     amount: u64,
-) -> Result<Shuffled<'a>, Refusal> {
+    budget: u64,
+) -> Result<Shuffled<'a>, ShuffleError> {
     let mut out = [0; 2];
     // SAFETY: the pointer of a slice is not null, also where the slice is empty, is aligned, and is good for the slice's
     // length. All that is written is borrowed for that, hence overlaps nothing.
@@ -86,11 +122,23 @@ pub fn partial_shuffle<'a>(
             items.as_mut_ptr(),
             items.len(),
             amount,
+            budget,
             &mut out,
         )
     };
-    Refusal::check(number)?;
-    Ok(Shuffled::new(items, out))
+    ended(number, items, out)
+}
+
+/// How a shuffle of the items ends that a function of the header has answered so.
+fn ended(number: u32, items: &mut [u32], out: [u64; 2]) -> Result<Shuffled<'_>, ShuffleError> {
+    if number == 0 {
+        return Ok(Shuffled::new(items, out));
+    }
+    let [words, _] = out;
+    Err(ShuffleError {
+        refusal: Refusal::from_number(number),
+        words,
+    })
 }
 
 /// Shuffles the whole slice: the tail is all of it, the head is empty.
@@ -104,27 +152,41 @@ pub fn partial_shuffle<'a>(
 ///
 /// let mut rng = Xoshiro256PlusPlus::seed_from_u64(1);
 /// let mut items = [1, 2, 3, 4, 5, 6, 7];
-/// let words = shuffle(&mut rng, &mut items)?.words;
+/// let words = shuffle(&mut rng, &mut items, u64::MAX)?.words;
 /// assert_eq!(words, 1);
 /// items.sort_unstable();
 /// assert_eq!(items, [1, 2, 3, 4, 5, 6, 7]);
-/// # Ok::<(), gapyndura::Refusal>(())
+/// # Ok::<(), gapyndura::slice::ShuffleError>(())
 /// ```
 ///
 /// # Errors
 ///
 /// Those of [`partial_shuffle`].
+///
+/// ```
+/// use gapyndura::{Refusal, Xoshiro256PlusPlus};
+/// use gapyndura::slice::shuffle;
+///
+/// let mut rng = Xoshiro256PlusPlus::seed_from_u64(1);
+/// let mut items: Vec<u32> = (0..100).collect();
+/// // The first draw serves the first 12 items, and these alone are shuffled.
+/// let error = shuffle(&mut rng, &mut items, 1).unwrap_err();
+/// assert_eq!((error.refusal, error.words), (Refusal::BudgetExhausted, 1));
+/// assert!(items[12..].iter().copied().eq(12..100));
+/// // One item needs no word.
+/// assert!(shuffle(&mut rng, &mut [7], 0).is_ok());
+/// ```
 #[inline]
 pub fn shuffle<'a>(
     rng: &mut Xoshiro256PlusPlus,
     items: &'a mut [u32],
-) -> Result<Shuffled<'a>, Refusal> {
+    budget: u64,
+) -> Result<Shuffled<'a>, ShuffleError> {
     let mut out = [0; 2];
+    let (at, len) = (items.as_mut_ptr(), items.len());
     // SAFETY: as in `partial_shuffle`.
-    let number =
-        unsafe { gapyndura_shuffle(rng.state_mut(), items.as_mut_ptr(), items.len(), &mut out) };
-    Refusal::check(number)?;
-    Ok(Shuffled::new(items, out))
+    let number = unsafe { gapyndura_shuffle(rng.state_mut(), at, len, budget, &mut out) };
+    ended(number, items, out)
 }
 
 /// The most items that a view is drawn from.
@@ -288,9 +350,9 @@ impl<T> fmt::Debug for Viewed<'_, '_, T> {
 /// The first of these that applies: [`ZeroState`](Refusal::ZeroState); [`TooLong`](Refusal::TooLong), for more than
 /// 2^32 - 2 items; [`SliceTooShort`](Refusal::SliceTooShort), for fewer entries of `indices` than items to be drawn;
 /// [`ScratchTooShort`](Refusal::ScratchTooShort), for fewer entries of `scratch` than items, only where the method in place is
-/// due; and [`BudgetExhausted`](Refusal::BudgetExhausted), where the method by rejection needs a word more than `budget`.
-/// Then there is no view. With the last of them exactly `budget` words are read, and the indices found stand at the front of
-/// `indices`, in order; with the others no word is read and no slice changed.
+/// due; and [`BudgetExhausted`](Refusal::BudgetExhausted), where `budget` words are read and one more is needed. Then there is no
+/// view. With the last of them exactly `budget` words are read, and both slices are as such a draw leaves them in
+/// [`index::sample`]; with the others no word is read and no slice changed.
 ///
 /// ```
 /// use gapyndura::{Refusal, Xoshiro256PlusPlus};

@@ -4,17 +4,20 @@ use reference::book::{Draw, Job, MOST_JOBS, write};
 use reference::book_jobs::ENTRIES;
 use reference::book_text::seed;
 use reference::generator::Generator;
+use reference::methods::bounds;
 use reference::words::{HALF_DROPPED, giving, rejecting};
 
 use super::random::{AMOUNTS, LENGTHS};
 use super::small;
+use crate::inputs::at_draws;
 
 /// A sample of more is tried with few budgets: it takes its time.
 const FEW: u32 = 1000;
 
 /// All of them: as many jobs in a book as it takes.
 pub fn books() -> Vec<Vec<u8>> {
-    let jobs = small::jobs().chain(samples()).chain(picks());
+    let jobs = small::jobs().chain(samples()).chain(long_draws());
+    let jobs = jobs.chain(picks());
     let mut books = packed(jobs.collect());
     books.extend(full().map(|job| write(&[job]).expect("it fits")));
     books.push(write(&longest()).expect("it fits"));
@@ -56,6 +59,26 @@ fn samples() -> impl Iterator<Item = Job> {
             },
         })
     })
+}
+
+/// Samples by Floyd's method and in place of which a draw has words on both sides of its tests, with budgets around that draw.
+fn long_draws() -> impl Iterator<Item = Job> {
+    [(6, 1), (9, 5), (12, 12)]
+        .into_iter()
+        .flat_map(|(length, amount)| {
+            let mut jobs = Vec::new();
+            at_draws(&bounds(length, amount), |from, budget| {
+                jobs.push(Job {
+                    seed: seed(Generator::of_state(from)).expect("a seed"),
+                    draw: Draw::Sample {
+                        length,
+                        amount,
+                        budget: u32::try_from(budget).unwrap_or(u32::MAX),
+                    },
+                });
+            });
+            jobs
+        })
 }
 
 /// Picks from few weights with every small budget, from generators whose words are on both sides of the draw's test.

@@ -234,7 +234,7 @@ mod tests {
     fn random_books_are_good_and_of_all_lengths() {
         let mut source = Source::new(1);
         let mut counts = [0; MOST_JOBS + 1];
-        for _ in 0..2000 {
+        for _ in 0..4000 {
             let book = book(&mut source);
             assert!(book.len() <= LARGEST);
             counts[read(&book).expect("a good book").len()] += 1;

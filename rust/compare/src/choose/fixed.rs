@@ -2,6 +2,7 @@
 
 use reference::choose_line::{PATTERNS, hints};
 use reference::choosing::{self, NO_UPPER};
+use reference::states::{before, giving_three};
 use reference::words::{bounded, giving};
 use reference::{State, some_state};
 
@@ -30,6 +31,9 @@ const LAST: usize = 1000;
 
 /// Numbers of items that are tried with every kind of false hints.
 const FALSELY_HINTED: [usize; 7] = [0, 1, 2, 3, 5, 8, 100];
+
+/// Numbers of items of which a draw has words on both sides of its tests.
+const DRAWN_ONCE: [usize; 7] = [2, 3, 6, 7, 100, 1000, 65_537];
 
 /// To this number of items draws come after coins.
 const AFTER_COINS: usize = 9;
@@ -191,8 +195,18 @@ fn spoilt((lower, upper): (Vec<u32>, Vec<u32>)) -> Vec<(Vec<u32>, Vec<u32>)> {
     all
 }
 
-/// Choices with coins first, then a draw of two or more items, then coins for those that are left: with every budget, and with a second
-/// word that is on one side or the other of the draw's test.
+/// Choices with exact hints, which are one draw, from generators whose words are on one side or the other of its tests, with every budget.
+pub fn single_draws(visit: &mut impl FnMut(Input)) {
+    for items_len in DRAWN_ONCE {
+        for (salt, row) in (1..).zip(bounded(items_len as u32)) {
+            let input = with(giving_three(row, salt), hints(1, items_len), items_len);
+            budgets(choosing::choose, input, visit);
+        }
+    }
+}
+
+/// Choices with coins first, then a draw of two or more items, then coins for those that are left: with every budget, and with words that
+/// are on one side or the other of the draw's tests.
 pub fn draws_between_coins(visit: &mut impl FnMut(Input)) {
     for items_len in 2..=AFTER_COINS {
         for before in 0..=items_len - 2 {
@@ -233,14 +247,19 @@ pub fn many(visit: &mut impl FnMut(Input)) {
 
 /// Generators for a draw of so many items after so many others: the first coins are all heads, all tails and mixed.
 fn at_tests(before: usize, known: usize) -> Vec<State> {
-    let pairs = bounded((before + known) as u32).into_iter();
-    let states = (1..).zip(pairs).flat_map(|(salt, (a, b))| {
-        // The first item needs no coin. After two the first word is one of coins, and the draw's is the second.
-        let words = match before < 2 {
-            true => vec![(a, b)],
-            false => [0, u32::MAX, 0x5a5a_5a5a].map(|coins| (coins, a)).to_vec(),
-        };
-        words.into_iter().map(move |(a, b)| giving(a, b, salt))
+    let rows = bounded((before + known) as u32).into_iter();
+    let states = (1..).zip(rows).flat_map(|(salt, row)| {
+        let at = giving_three(row, salt);
+        // The first item needs no coin. After two the first word is one of coins, and the draw's are those behind it.
+        if before < 2 {
+            return vec![at];
+        }
+        let coins = [0, u32::MAX, 0x5a5a_5a5a];
+        let mut states = coins
+            .map(|coins| giving_three([coins, row[0], row[1]], salt))
+            .to_vec();
+        states.push(self::before(at, 1));
+        states
     });
     states.collect()
 }

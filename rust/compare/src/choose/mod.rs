@@ -19,6 +19,7 @@ use std::marker::PhantomData;
 use reference::State;
 use reference::choosing::{self, Chosen, Lists, choose, choose_stable};
 
+use crate::draw_faults;
 use crate::inputs::Source;
 use crate::kind::Kind;
 use crate::slices::Lent;
@@ -123,6 +124,10 @@ impl Chooser for AnyChoice {
         faults::BITS_FROM_BELOW,
         faults::ZERO_IS_YES,
         faults::COIN_AT_ONE,
+        draw_faults::SECOND_WORD,
+        draw_faults::FIRST_LOW_KEPT,
+        draw_faults::STOPS_AT_LARGEST,
+        draw_faults::THIRD_UNTESTED,
     ];
     const IS_STABLE: bool = false;
     const RAND: choosing::Choose = choose;
@@ -133,6 +138,7 @@ impl Chooser for AnyChoice {
     }
 
     fn further(visit: &mut impl FnMut(Input)) {
+        fixed::single_draws(visit);
         fixed::draws_between_coins(visit);
         fixed::coins_after_a_draw(visit);
     }

@@ -2,7 +2,8 @@
 
 use reference::choose_line::{PATTERNS, hints};
 use reference::choosing::NO_UPPER;
-use reference::words::{bounded, giving};
+use reference::states::{before, giving_three};
+use reference::words::bounded;
 
 use super::Input;
 use crate::inputs::Source;
@@ -19,12 +20,10 @@ pub fn call(source: &mut Source) -> Input {
     }
     let is_at_test = len > 0 && source.below(4) == 0;
     let from = if is_at_test {
-        // The bound of the first draw where there are exact hints; after coins the second word is the draw's.
-        let (a, b) = source.one_of(&bounded(len as u32));
-        match source.below(2) {
-            0 => giving(a, b, source.even() | 1),
-            _ => giving(source.even() as u32, a, source.even() | 1),
-        }
+        // The bound of the first draw where there are exact hints; after coins the second word is the draw's first.
+        let row = source.one_of(&bounded(len as u32));
+        let at = giving_three(row, source.even() | 1);
+        before(at, source.below(2).into())
     } else {
         source.state_or_zero()
     };

@@ -31,25 +31,21 @@ impl Answer {
     pub fn new(call: &Filling, end: Fill) -> Self {
         let items: Vec<u32> = (0..).take(call.items_len).collect();
         let mut buf = Lent::new(call.buf_len);
-        let ended = end(call.from, &items, buf.entries());
+        let ended = end(call, &items, buf.entries());
         Self { ended, buf }
     }
 }
 
 impl Kind for SampleFill {
     const NAME: &'static str = "sample_fill";
-    const FAULTS: &'static [&'static str] = &[faults::BOUND, faults::WORDS];
+    const FAULTS: &'static [&'static str] = &faults::NAMES;
     const PARTS: usize = 2;
     type Input = Filling;
     type Answer = Answer;
 
     fn new(plant: Option<&str>) -> Self {
         Self {
-            end: match plant {
-                Some(faults::BOUND) => faults::bound,
-                Some(faults::WORDS) => faults::words,
-                _ => port::sample_fill,
-            },
+            end: faults::planted(plant).unwrap_or(port::sample_fill),
         }
     }
 
@@ -62,20 +58,23 @@ impl Kind for SampleFill {
     }
 
     fn smaller(call: &Filling) -> Vec<Filling> {
-        let with = |from, items_len, buf_len| Filling {
+        let feeds = smaller(call.items_len as u64).map(|less| Filling {
+            items_len: less as usize,
+            ..call.clone()
+        });
+        let buffers = smaller(call.buf_len as u64).map(|less| Filling {
+            buf_len: less as usize,
+            ..call.clone()
+        });
+        let budgets = smaller(call.budget).map(|budget| Filling {
+            budget,
+            ..call.clone()
+        });
+        let states = smaller_states(call.from).map(|from| Filling {
             from,
-            items_len,
-            buf_len,
-        };
-        let Filling {
-            from,
-            items_len,
-            buf_len,
-        } = *call;
-        let feeds = smaller(items_len as u64).map(|less| with(from, less as usize, buf_len));
-        let buffers = smaller(buf_len as u64).map(|less| with(from, items_len, less as usize));
-        let states = smaller_states(from).map(|less| with(less, items_len, buf_len));
-        feeds.chain(buffers).chain(states).collect()
+            ..call.clone()
+        });
+        feeds.chain(buffers).chain(budgets).chain(states).collect()
     }
 
     fn rand(call: &Filling) -> Answer {

@@ -1,13 +1,13 @@
 //! The port's calls of `sample_fill`.
 
 use gapyndura::{Xoshiro256PlusPlus, iterator};
-use reference::State;
+use reference::filling::Filling;
 use reference::sampling::Ended;
 
 /// How the port ends a fill, and what is then in the buffer.
-pub fn sample_fill(from: State, items: &[u32], buf: &mut [u32]) -> Ended {
-    let mut rng = Xoshiro256PlusPlus::from_state(from);
-    let result = iterator::sample_fill(&mut rng, items, buf);
+pub fn sample_fill(call: &Filling, items: &[u32], buf: &mut [u32]) -> Ended {
+    let mut rng = Xoshiro256PlusPlus::from_state(call.from);
+    let result = iterator::sample_fill(&mut rng, items, buf, call.budget);
     let state = rng.state();
     match result {
         Ok(filled) => Ended {
@@ -16,6 +16,9 @@ pub fn sample_fill(from: State, items: &[u32], buf: &mut [u32]) -> Ended {
             words: filled.words,
             state,
         },
-        Err(refusal) => Ended::refused(refusal.number().into(), state),
+        Err(error) => Ended {
+            words: error.words,
+            ..Ended::refused(error.refusal.number().into(), state)
+        },
     }
 }

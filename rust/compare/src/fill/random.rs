@@ -1,8 +1,9 @@
 //! Random fills. Most are small.
 
-use reference::filling::Filling;
+use reference::filling::{Filling, bounds};
 
 use crate::inputs::Source;
+use crate::sample::random::budget;
 use crate::shuffle::length;
 
 /// A random fill.
@@ -15,9 +16,11 @@ pub fn call(source: &mut Source) -> Filling {
         3 => source.below(10) as usize,
         _ => source.below(items_len as u32 + 2) as usize,
     };
+    let bounds = bounds(items_len, buf_len);
     Filling {
-        from: source.state_or_zero(),
+        from: source.state_at_draws(&bounds),
         items_len,
         buf_len,
+        budget: budget(source, bounds.len() as u64),
     }
 }

@@ -2,10 +2,11 @@
 
 use reference::call::Call;
 use reference::choose_line::{Choosing, Hints, PATTERNS, hints};
-use reference::words::giving;
+use reference::states::{before, giving_three};
+use reference::words::{giving, reading};
 use reference::{State, some_state};
 
-use crate::contents::Section;
+use crate::contents::{Section, at_draws};
 
 /// A budget that no choice of the list uses up.
 const ENOUGH: u64 = 1000;
@@ -30,7 +31,14 @@ const FEEDS: [(usize, u64); 11] = [
 
 /// All choices of the list.
 pub fn sections() -> Vec<Section> {
-    vec![patterns(), feeds(), lists(), budgets(), refusals()]
+    vec![
+        patterns(),
+        feeds(),
+        lists(),
+        budgets(),
+        long_draws(),
+        refusals(),
+    ]
 }
 
 /// Both choices of such a line.
@@ -131,6 +139,28 @@ fn budgets() -> Section {
         })
     }));
     Section::new("Choices with few words to read", calls)
+}
+
+/// Choices of which a draw reads three words and more: one draw with exact hints, and one behind coins for three items.
+fn long_draws() -> Section {
+    let one = |from, budget| {
+        Call::Choose(Choosing {
+            budget,
+            ..line(from, 6, 1)
+        })
+    };
+    let mut calls = at_draws(&[6], one);
+    for (row, salt) in reading(6, 3).into_iter().zip(1..) {
+        let from = before(giving_three(row, some_state(salt)[0]), 1);
+        calls.extend((0..6).map(|budget| {
+            Call::Choose(Choosing {
+                budget,
+                hints: Hints::Given(vec![0, 0, 0, 3, 0, 0, 0], vec![u32::MAX; 7]),
+                ..line(from, 6, 0)
+            })
+        }));
+    }
+    Section::new("Choices of which a draw reads three words and more", calls)
 }
 
 /// No generator before false hints, and these before a budget of 0. No item and one item need no word.

@@ -6,7 +6,8 @@ use reference::draw_line::Bounded;
 use reference::generator::Generator;
 use reference::line::{Line, Name};
 use reference::sampling::Sampling;
-use reference::words::{bounded, giving, rejecting};
+use reference::states::{LONG_DRAWS, at_last_draw, giving_three};
+use reference::words::{bounded, giving, reading, rejecting};
 use reference::{State, some_state};
 
 use crate::{choices, run, samples, shuffles, views, weights, wrong};
@@ -14,11 +15,14 @@ use crate::{choices, run, samples, shuffles, views, weights, wrong};
 /// The bounds that are drawn below: the least, powers of two, their neighbours, and the largest.
 const BOUNDS: [u32; 8] = [1, 2, 3, 6, 1 << 31, (1 << 31) + 1, u32::MAX - 1, u32::MAX];
 
+/// Of each draw that reads three or more words, so many rows of words are tried.
+const ROWS: usize = 3;
+
 /// Random draws for each bound, one after another.
 const DRAWS: u64 = 14;
 
-/// Budgets that end a bounded draw before its first word, between its two words, after both, and never.
-const BOUNDED_BUDGETS: [u64; 4] = [0, 1, 2, u64::MAX];
+/// Budgets that end a bounded draw before its first word, behind each of three, and never.
+const BOUNDED_BUDGETS: [u64; 5] = [0, 1, 2, 3, u64::MAX];
 
 /// Budgets that end a rejecting draw after one word, after two, after three, and never.
 const REJECTING_BUDGETS: [u64; 4] = [1, 2, 3, u64::MAX];
@@ -94,13 +98,13 @@ pub fn chained(from: State, calls: impl IntoIterator<Item = impl Fn(State) -> Ca
     calls.collect()
 }
 
-/// A bounded draw without budget: Floyd's sample of one.
-fn floyd_of_one(from: State, r: u32) -> Call {
+/// The same draw in a call: Floyd's sample of one.
+fn floyd_of_one(from: State, r: u32, budget: u64) -> Call {
     Call::Sample(Sampling {
         from,
         length: r.into(),
         amount: 1,
-        budget: 0,
+        budget,
         indices_len: 1,
         scratch_len: 0,
     })
@@ -202,22 +206,26 @@ fn steps() -> Section {
     )
 }
 
-/// The draws that document 01 marks, each held to what it says. Those of shuffles and of weights are with these.
+/// The draws that documents 01 and 02 mark, each held to what it says. Those of shuffles and of weights are with these.
 fn marked() -> Section {
-    // First word, second word, value, words read.
+    // The words, the value, and how many words are read.
     let drawn = [
-        (2147483648, 0, 3, 1),
-        (4294967295, 0, 5, 1),
-        (715827882, 2863311531, 1, 2),
-        (715827882, 2863311530, 0, 2),
+        ([2147483648, 0, 0], 3, 1),
+        ([4294967295, 0, 0], 5, 1),
+        ([715827882, 2863311531, 0], 1, 2),
+        ([715827882, 2863311530, 0], 0, 3),
+        ([715827882, 2863311530, 2863311529], 0, 3),
+        ([715827882, 2863311530, 2863311531], 1, 3),
     ];
     let mut calls = Vec::new();
-    for (a, b, value, words) in drawn {
-        let from = giving(a, b, 1);
-        for call in [random_range(from, 6, 2), floyd_of_one(from, 6)] {
-            calls.push(held(call, &[value], words));
+    for (row, value, words) in drawn {
+        let from = giving_three(row, 1);
+        for call in [random_range, floyd_of_one] {
+            calls.push(held(call(from, 6, words), &[value], words));
+            calls.push(call(from, 6, words - 1));
         }
     }
+    calls.extend(long_draws());
     calls.push(held(uniform_int(giving(0, 1, 1), 6, 2), &[0], 2));
     // Draws 1 and 1 below 2 and below 3, and draws 0 and 0.
     for (word, indices) in [(1 << 31, [2, 1]), (0, [2, 0])] {
@@ -225,16 +233,46 @@ fn marked() -> Section {
             from: giving(word, word, 1),
             length: 3,
             amount: 2,
-            budget: 0,
+            budget: 2,
             indices_len: 2,
             scratch_len: 0,
         });
         calls.push(held(call, &indices, 2));
     }
     Section::new(
-        "The draws and the samples that document 01 works out",
+        "The draws and the samples that documents 01 and 02 work out",
         calls,
     )
+}
+
+/// Draws below 6 that read four words and five, with every budget. The fourth settles the value but for one word.
+fn long_draws() -> Vec<Call> {
+    let mut calls = Vec::new();
+    for (from, value, words) in LONG_DRAWS {
+        for call in [random_range, floyd_of_one] {
+            calls.push(held(call(from, 6, words), &[value], words));
+            calls.extend((0..words).map(|budget| call(from, 6, budget)));
+        }
+    }
+    calls
+}
+
+/// Calls of which the first, a middle and the last of the bounded draws below these numbers reads three or more words, where it has such
+/// words: with a budget for each of its words and with enough. `make` is given the generator and the budget.
+pub fn at_draws(bounds: &[u32], make: impl Fn(State, u64) -> Call) -> Vec<Call> {
+    let mut places = vec![0, bounds.len() / 2, bounds.len() - 1];
+    places.dedup();
+    let mut calls = Vec::new();
+    for place in places {
+        let rows = reading(bounds[place], 3);
+        for (row, salt) in rows.into_iter().step_by(2).take(ROWS).zip(1..) {
+            let from = at_last_draw(&bounds[..=place], row, some_state(salt)[0]);
+            let before = place as u64;
+            let budgets = (before..before + 5).chain([u64::MAX]);
+            calls.extend(budgets.map(|budget| make(from, budget)));
+        }
+    }
+    calls
 }
 
 /// A call that is answered so.
@@ -269,7 +307,7 @@ fn random(r: u32) -> Section {
         move |from| match number % 3 {
             0 => random_range(from, r, budget),
             1 => uniform_int(from, r, budget),
-            _ => floyd_of_one(from, r),
+            _ => floyd_of_one(from, r, budget),
         }
     });
     Section::new(
@@ -278,26 +316,27 @@ fn random(r: u32) -> Section {
     )
 }
 
-/// Generators that give these pairs of words.
-fn chosen(pairs: Vec<(u32, u32)>) -> impl Iterator<Item = State> {
-    let salted = pairs.into_iter().zip(1..);
-    salted.map(|((a, b), salt)| giving(a, b, some_state(salt)[0]))
-}
-
 fn chosen_bounded(r: u32) -> Section {
-    let calls = chosen(bounded(r)).flat_map(|from| {
+    let rows = bounded(r).into_iter().zip(1..);
+    let calls = rows.flat_map(|(row, salt)| {
+        let from = giving_three(row, some_state(salt)[0]);
         let within = BOUNDED_BUDGETS.map(|budget| random_range(from, r, budget));
-        [&within[..], &[floyd_of_one(from, r)]].concat()
+        [&within[..], &[floyd_of_one(from, r, u64::MAX)]].concat()
     });
     Section::new(
-        format!("Bounded draws below {r} at the second word's tests"),
+        format!(
+            "Bounded draws below {r} at the tests of the second, the third and the fourth word"
+        ),
         calls.collect(),
     )
 }
 
 fn chosen_rejecting(r: u32) -> Section {
-    let calls = chosen(rejecting(r))
-        .flat_map(|from| REJECTING_BUDGETS.map(|budget| uniform_int(from, r, budget)));
+    let pairs = rejecting(r).into_iter().zip(1..);
+    let calls = pairs.flat_map(|((a, b), salt)| {
+        let from = giving(a, b, some_state(salt)[0]);
+        REJECTING_BUDGETS.map(|budget| uniform_int(from, r, budget))
+    });
     Section::new(
         format!("Rejecting draws below {r} at the threshold"),
         calls.collect(),

@@ -33,13 +33,12 @@ fn call(from: State, number: u64) -> Call {
     match number % 12 {
         0 => Call::Sample(sampling(from, length, amount)),
         1 => Call::IndexedSamples(sampling(from, length, amount)),
-        2 => Call::PartialShuffle(Shuffling { from, len, amount }),
-        3 => Call::Shuffle(Whole { from, len }),
-        4 => Call::SampleFill(Filling {
-            from,
-            items_len: len,
-            buf_len: amount as usize,
-        }),
+        2 => Call::PartialShuffle(shuffling(from, len, amount, number)),
+        3 => {
+            let budget = few(number);
+            Call::Shuffle(Whole { from, len, budget })
+        }
+        4 => Call::SampleFill(filling(from, len, amount as usize, number)),
         5 => Call::Choose(choosing(from, len, hints(7, len))),
         6 => Call::ChooseStable(choosing(from, len, hints(2, len))),
         7 => Call::Pick(picking(from, number)),
@@ -61,10 +60,34 @@ fn sampling(from: State, length: u64, amount: u64) -> Sampling {
         from,
         length,
         amount,
-        budget: amount * 10,
+        budget: amount * 10 % 97,
         indices_len: amount as usize,
         scratch_len: length as usize,
     }
+}
+
+/// Some of these use their budget up.
+fn shuffling(from: State, len: usize, amount: u64, number: u64) -> Shuffling {
+    Shuffling {
+        from,
+        len,
+        amount,
+        budget: few(number),
+    }
+}
+
+fn filling(from: State, items_len: usize, buf_len: usize, number: u64) -> Filling {
+    Filling {
+        from,
+        items_len,
+        buf_len,
+        budget: few(number),
+    }
+}
+
+/// A budget that goes up and down with the place.
+fn few(number: u64) -> u64 {
+    number * 7 % 50
 }
 
 fn choosing(from: State, items_len: usize, (lower, upper): (Vec<u32>, Vec<u32>)) -> Choosing {

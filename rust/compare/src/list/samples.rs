@@ -3,11 +3,11 @@
 
 use reference::call::Call;
 use reference::line::ROOM;
-use reference::methods::{Method, by_rand, due};
+use reference::methods::{Method, bounds, by_rand, due};
 use reference::sampling::Sampling;
 use reference::{State, from_state, some_state};
 
-use crate::contents::Section;
+use crate::contents::{Section, at_draws};
 
 /// Lines of samples for each small length and amount.
 const LINES: u64 = 3;
@@ -66,6 +66,11 @@ pub fn sections() -> Vec<Section> {
         at_bounds(),
         budgets(44_010, 163),
         budgets(2_147_483_649, 163),
+        budgets(8, 5),
+        budgets(4_294_967_295, 8),
+        budgets(14, 14),
+        budgets(350, 12),
+        long_draws(),
         slices(),
         refusals(),
     ]
@@ -131,7 +136,8 @@ fn marked() -> Section {
     Section::new("Samples at the lengths that document 01 marks", calls)
 }
 
-/// Choices that a refusal shows: 9 with too short a scratch slice, in place; 13 with a budget of 0, rejection.
+/// Choices that a refusal shows: 9 with too short a scratch slice, in place; 13 with a budget of 0, rejection, since Floyd's method is due for
+/// no such amount.
 fn marked_by_refusal() -> Section {
     let marked = [
         (499_999, 2000, 9),
@@ -163,25 +169,16 @@ fn at_bounds() -> Section {
     )
 }
 
-/// A sample by rejection with budgets from 0 to more than it needs.
+/// A sample with budgets from 0 to more than it needs: all of them where it needs few.
 fn budgets(length: u64, amount: u64) -> Section {
     let from = some_state(length);
     let needed = by_rand(&mut from_state(from), length as u32, amount as u32).words();
-    let budgets = [
-        0,
-        1,
-        2,
-        3,
-        80,
-        162,
-        163,
-        164,
-        needed - 1,
-        needed,
-        needed + 1,
-        u64::MAX,
-    ];
-    let calls = budgets.map(|budget| {
+    let mut budgets: Vec<u64> = match needed {
+        ..50 => (0..needed).collect(),
+        _ => vec![0, 1, 2, 3, 80, 162, 163, 164, needed - 1],
+    };
+    budgets.extend([needed, needed + 1, u64::MAX]);
+    let calls = budgets.into_iter().map(|budget| {
         Call::Sample(Sampling {
             budget,
             ..sampling(from, length, amount)
@@ -189,11 +186,26 @@ fn budgets(length: u64, amount: u64) -> Section {
     });
     Section::new(
         format!("{amount} of {length} within a budget; {needed} words are needed"),
-        calls.into(),
+        calls.collect(),
     )
 }
 
-/// Slices that are exactly long enough, one short and longer; and budgets of 0 for the methods that read none.
+/// Samples by Floyd's method and in place of which a draw reads three words and more.
+fn long_draws() -> Section {
+    let mut calls = Vec::new();
+    for (length, amount) in [(6, 1), (9, 5), (4_294_967_295, 3), (13, 12), (350, 12)] {
+        let bounds = bounds(length as u32, amount as u32);
+        calls.extend(at_draws(&bounds, |from, budget| {
+            Call::Sample(Sampling {
+                budget,
+                ..sampling(from, length, amount)
+            })
+        }));
+    }
+    Section::new("Samples of which a draw reads three words and more", calls)
+}
+
+/// Slices that are exactly long enough, one short and longer; and budgets of 0.
 fn slices() -> Section {
     let mut calls = Vec::new();
     for (length, amount) in [(30, 11), (30, 12), (200, 163), (44_010, 163)] {
@@ -233,18 +245,23 @@ const CAUSES: [Cause; 6] = [
     |call| call.budget = 0,
 ];
 
-/// Each cause alone and each two together, at a sample in place; with one by rejection for the budget.
+/// Each cause alone and each two together, at a sample in place; and with one by rejection and one by Floyd's method for the budget.
 fn refusals() -> Section {
     let mut calls = Vec::new();
     for (first, one) in CAUSES.iter().enumerate() {
         for other in &CAUSES[first..] {
-            let length = if first == 5 { 44_010 } else { 200 };
-            let mut call = sampling(some_state(5), length, 163);
+            let mut call = sampling(some_state(5), 200, 163);
             call.indices_len = 50_000;
             one(&mut call);
             other(&mut call);
             calls.push(Call::Sample(call));
         }
+    }
+    for (length, amount) in [(44_010, 163), (20, 11)] {
+        calls.push(Call::Sample(Sampling {
+            budget: 0,
+            ..sampling(some_state(5), length, amount)
+        }));
     }
     for cause in &CAUSES[..4] {
         let mut call = sampling(some_state(6), 44_010, 163);

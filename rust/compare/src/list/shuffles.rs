@@ -1,14 +1,14 @@
 //! The shuffles, the parts and the fills of the list. Few are long, for all their values are in the answer.
 
 use reference::call::Call;
-use reference::filling::Filling;
+use reference::filling::{self, Filling};
 use reference::line::ROOM;
 use reference::shuffle_line::Part;
-use reference::shuffling::{Shuffling, Whole, chunk};
+use reference::shuffling::{Shuffling, Whole, bounds, chunk};
 use reference::words::giving;
 use reference::{State, some_state};
 
-use crate::contents::{Section, held};
+use crate::contents::{Section, at_draws, held};
 
 /// Lengths of whole shuffles: the least, those next to the ends of the first chunks, and long ones.
 const LENGTHS: [usize; 15] = [0, 1, 2, 3, 4, 11, 12, 13, 18, 19, 20, 26, 27, 300, 8000];
@@ -54,6 +54,19 @@ const FILLS: [(usize, usize); 22] = [
     (500, ROOM),
 ];
 
+/// Lengths and amounts of shuffles that are asked for with every budget.
+const BUDGETED: [(usize, u64); 9] = [
+    (0, 0),
+    (1, 1),
+    (5, 0),
+    (3, 3),
+    (5, 2),
+    (30, 30),
+    (40, 12),
+    (100, 20),
+    (65_537, 3),
+];
+
 /// All shuffles and fills of the list.
 pub fn sections() -> Vec<Section> {
     vec![
@@ -63,26 +76,49 @@ pub fn sections() -> Vec<Section> {
         at_chunks(),
         long(),
         of_blocks(),
+        budgets(),
+        long_draws(),
         parts(),
         fills(),
+        fill_budgets(),
         refusals(),
     ]
 }
 
+/// A partial shuffle with a budget that suffices.
 fn partial_shuffle(from: State, len: usize, amount: u64) -> Call {
-    Call::PartialShuffle(Shuffling { from, len, amount })
+    partial_within(from, len, amount, u64::MAX)
+}
+
+fn partial_within(from: State, len: usize, amount: u64, budget: u64) -> Call {
+    Call::PartialShuffle(Shuffling {
+        from,
+        len,
+        amount,
+        budget,
+    })
+}
+
+/// A shuffle with a budget that suffices.
+fn shuffle(from: State, len: usize) -> Call {
+    let budget = u64::MAX;
+    Call::Shuffle(Whole { from, len, budget })
+}
+
+fn fill_within(from: State, items_len: usize, buf_len: usize, budget: u64) -> Call {
+    Call::SampleFill(Filling {
+        from,
+        items_len,
+        buf_len,
+        budget,
+    })
 }
 
 /// The shuffle that document 01 works out, held to what it says, and those of the chunks before and after; and the bounds of the two chunks
 /// that it works out, which show in the words: two items from place 65534 on take one word, and two from place 65535 on take two.
 fn marked() -> Section {
     // The first words that give the chunks 6, 7 and 8.
-    let [before, turned, after] = [54, 63, 72].map(|word| {
-        Call::Shuffle(Whole {
-            from: giving(word, 0, 1),
-            len: 3,
-        })
-    });
+    let [before, turned, after] = [54, 63, 72].map(|word| shuffle(giving(word, 0, 1), 3));
     let mut calls = vec![before, held(turned, &[2, 1, 0], 1), after];
     for (len, words) in [(65_536, 1), (65_537, 2)] {
         let call = partial_shuffle(giving(1 << 31, 1 << 30, 1), len, 2);
@@ -96,12 +132,8 @@ fn marked() -> Section {
 }
 
 fn whole() -> Section {
-    let calls = (0..).zip(LENGTHS).map(|(number, len)| {
-        Call::Shuffle(Whole {
-            from: some_state(number),
-            len,
-        })
-    });
+    let numbered = (0..).zip(LENGTHS);
+    let calls = numbered.map(|(number, len)| shuffle(some_state(number), len));
     Section::new("Shuffles", calls.collect())
 }
 
@@ -146,10 +178,7 @@ fn long() -> Section {
 
 /// Shuffles whose answers are longer than a block.
 fn of_blocks() -> Section {
-    let calls = BLOCKS.map(|len| {
-        let from = some_state(len as u64);
-        Call::Shuffle(Whole { from, len })
-    });
+    let calls = BLOCKS.map(|len| shuffle(some_state(len as u64), len));
     let [full, more, three] = calls.each_ref().map(values_size);
     assert_eq!(full, BLOCK - LEAST_LEFT + 1);
     assert!(more > full && three > 2 * BLOCK);
@@ -163,6 +192,54 @@ fn of_blocks() -> Section {
 fn values_size(call: &Call) -> usize {
     let values = call.answer().values;
     values.iter().map(|value| format!(" {value}").len()).sum()
+}
+
+/// Shuffles with every budget to more than they need: no draw, one, chunks of many indices and of one.
+fn budgets() -> Section {
+    let mut calls = Vec::new();
+    for (number, (len, amount)) in (110..).zip(BUDGETED) {
+        let from = some_state(number);
+        let needed = partial_shuffle(from, len, amount).answer().words;
+        for budget in 0..=needed + 1 {
+            calls.push(partial_within(from, len, amount, budget));
+            if amount == len as u64 {
+                calls.push(Call::Shuffle(Whole { from, len, budget }));
+            }
+        }
+    }
+    Section::new("Shuffles within a budget", calls)
+}
+
+/// Shuffles of which a draw reads three words and more.
+fn long_draws() -> Section {
+    let mut calls = Vec::new();
+    for (len, amount) in [(5, 3), (20, 20), (65_537, 2)] {
+        let of_partial = |from, budget| partial_within(from, len, amount, budget);
+        calls.extend(at_draws(&bounds(len, amount), of_partial));
+    }
+    for len in [3, 20] {
+        let of_whole = |from, budget| Call::Shuffle(Whole { from, len, budget });
+        calls.extend(at_draws(&bounds(len, len as u64), of_whole));
+    }
+    for (items_len, buf_len) in [(6, 5), (9, 3), (7, 0)] {
+        let of_fill = |from, budget| fill_within(from, items_len, buf_len, budget);
+        let bounds = filling::bounds(items_len, buf_len);
+        calls.extend(at_draws(&bounds, of_fill));
+    }
+    let title = "Shuffles and fills of which a draw reads three words and more";
+    Section::new(title, calls)
+}
+
+/// Fills with every budget to more than they need.
+fn fill_budgets() -> Section {
+    let mut calls = Vec::new();
+    let sizes: [(usize, usize); 5] = [(0, 0), (3, 3), (2, 5), (1, 0), (9, 4)];
+    for (number, (items_len, buf_len)) in (230..).zip(sizes) {
+        let most = items_len.saturating_sub(buf_len) as u64 + 1;
+        let fill = |budget| fill_within(some_state(number), items_len, buf_len, budget);
+        calls.extend((0..=most).map(fill));
+    }
+    Section::new("Fills within a budget", calls)
 }
 
 /// Parts at every kind of place: the ends, next to them, in the middle and beyond.
@@ -190,11 +267,7 @@ fn parts() -> Section {
 
 fn fills() -> Section {
     let calls = (200..).zip(FILLS).map(|(number, (items_len, buf_len))| {
-        Call::SampleFill(Filling {
-            from: some_state(number),
-            items_len,
-            buf_len,
-        })
+        fill_within(some_state(number), items_len, buf_len, u64::MAX)
     });
     Section::new("Fills", calls.collect())
 }
@@ -203,18 +276,14 @@ fn fills() -> Section {
 fn refusals() -> Section {
     let from = [0; 4];
     let mut calls = Vec::new();
-    for (len, amount) in [(0, 0), (3, 2), (30, 0), (30, u64::MAX)] {
-        calls.push(partial_shuffle(from, len, amount));
+    for budget in [0, u64::MAX] {
+        for (len, amount) in [(0, 0), (3, 2), (30, 0), (30, u64::MAX)] {
+            calls.push(partial_within(from, len, amount, budget));
+        }
+        calls.extend([0, 1, 30].map(|len| Call::Shuffle(Whole { from, len, budget })));
+        let sizes = [(0, 0), (3, 0), (30, 4), (4, 30)];
+        calls.extend(sizes.map(|(items, slots)| fill_within(from, items, slots, budget)));
     }
-    calls.extend([0, 1, 30].map(|len| Call::Shuffle(Whole { from, len })));
-    let sizes = [(0, 0), (3, 0), (30, 4), (4, 30)];
-    calls.extend(sizes.map(|(items_len, buf_len)| {
-        Call::SampleFill(Filling {
-            from,
-            items_len,
-            buf_len,
-        })
-    }));
     assert!(calls.iter().all(|call| call.answer().number == 12));
     Section::new("Shuffles and fills that are refused", calls)
 }

@@ -2,11 +2,11 @@
 
 use reference::call::Call;
 use reference::line::ROOM;
-use reference::methods::{by_rand, scratch};
+use reference::methods::{bounds, by_rand, scratch};
 use reference::sampling::Sampling;
 use reference::{State, from_state, some_state};
 
-use crate::contents::Section;
+use crate::contents::{Section, at_draws};
 
 /// Numbers of items and amounts: none, one, few, and on both sides of the methods' bounds.
 const VIEWS: [(u64, u64); 20] = [
@@ -49,6 +49,7 @@ pub fn sections() -> Vec<Section> {
         views("Views of drawn items", 700, &VIEWS),
         views("Views of as many items as there are", 720, &CLIPPED),
         budgets(44_010, 163),
+        long_draws(),
         refusals(),
     ]
 }
@@ -100,6 +101,23 @@ fn budgets(length: u64, amount: u64) -> Section {
     )
 }
 
+/// Views of which a draw reads three words and more, by Floyd's method and in place; and with every budget before that draw.
+fn long_draws() -> Section {
+    let mut calls = Vec::new();
+    for (length, amount) in [(6, 6), (100, 3), (12, 12)] {
+        let make = |from, budget| {
+            Call::IndexedSamples(Sampling {
+                budget,
+                ..viewing(from, length, amount)
+            })
+        };
+        let bounds = bounds(length as u32, amount as u32);
+        calls.extend(at_draws(&bounds, make));
+        calls.extend((0..=amount).map(|budget| make(some_state(760), budget)));
+    }
+    Section::new("Views of which a draw reads three words and more", calls)
+}
+
 /// Each cause of a refusal, alone and with the next, and slices that are just long enough for the items there are.
 fn refusals() -> Section {
     let dead = [0; 4];
@@ -113,7 +131,9 @@ fn refusals() -> Section {
         (from, 5, 9, 9, 5, 0, 0),
         (from, 20, 12, 9, 11, 0, 8),
         (from, 20, 12, 9, 12, 19, 9),
-        (from, 20, u64::MAX, 0, 20, 20, 0),
+        (from, 20, u64::MAX, 19, 20, 20, 13),
+        (from, 20, u64::MAX, 20, 20, 20, 0),
+        (from, 20, 0, 0, 0, 0, 0),
         (from, 200, 163, 0, 200, 199, 9),
         (from, 44_010, 163, 0, 162, 0, 8),
         (from, 44_010, 163, 0, 163, 0, 13),

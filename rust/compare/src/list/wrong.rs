@@ -5,7 +5,7 @@ use reference::line::{ROOM, call};
 use crate::contents::Section;
 
 /// Lines that are no calls: by their blanks, names, generators, counts of numbers, numbers, and numbers that their calls do not take.
-const WRONG: [&str; 74] = [
+const WRONG: [&str; 75] = [
     // blanks and what is none
     " seed 1",
     "seed 1 ",
@@ -56,13 +56,14 @@ const WRONG: [&str; 74] = [
     "sample 1 10 3 0 3",
     "sample 1 10 3 0 3 0 0",
     "indexed_samples 1 10 3 0 3",
-    "partial_shuffle 1 10",
-    "partial_shuffle 1 10 3 3",
-    "shuffle 1",
-    "shuffle 1 2 3",
+    "partial_shuffle 1 10 3",
+    "partial_shuffle 1 10 3 9 9",
+    "shuffle 1 2",
+    "shuffle 1 2 9 9",
     "tail 1 5",
     "head 1 5 2 1",
-    "sample_fill 1 10",
+    "sample_fill 1 10 3",
+    "sample_fill 1 10 3 9 9",
     "choose 1 10 9",
     "choose 1 10 9 1 1",
     "choose_stable 1 10 9 0 0",
@@ -70,11 +71,11 @@ const WRONG: [&str; 74] = [
     "pick 1 1 9 2 0",
     "weight 1 0 2 0",
     // numbers
-    "shuffle 1 -1",
-    "shuffle 1 +1",
-    "shuffle 1 1a",
-    "shuffle 1 18446744073709551616",
-    "partial_shuffle 1 3 36893488147419103233",
+    "shuffle 1 -1 9",
+    "shuffle 1 +1 9",
+    "shuffle 1 1 9a",
+    "shuffle 1 1 18446744073709551616",
+    "partial_shuffle 1 3 36893488147419103233 9",
     "sample 1 10 3 1.5 3 0",
     // what the calls do not take
     "random_range 1 0 9",
@@ -93,10 +94,10 @@ const GOOD: [&str; 12] = [
     "seed 007",
     "seed 00000000000000000000000000000000000000000000000000000000000001",
     "random_range 00 06 09",
-    "shuffle 1 00000000000000000000000000000000000000003",
+    "shuffle 1 00000000000000000000000000000000000000003 09",
     "random_range 1 4294967295 18446744073709551615",
     "sample 1 18446744073709551615 18446744073709551615 18446744073709551615 0 0",
-    "partial_shuffle 1 3 18446744073709551615",
+    "partial_shuffle 1 3 18446744073709551615 18446744073709551615",
     "tail 1 3 18446744073709551615",
     "choose 1 0 9 2 1 0 4294967295",
     "choose 1 0 9 2 0",
@@ -127,17 +128,17 @@ fn rooms() -> Section {
     for (len, is_good) in [(ROOM, true), (ROOM + 1, false)] {
         let hinted = len - 1;
         let asked = [
-            format!("sample 1 10 3 0 {len} 0"),
-            format!("sample 1 10 3 0 3 {len}"),
-            format!("indexed_samples 1 {len} 3 0 3 0"),
-            format!("indexed_samples 1 10 3 0 {len} 0"),
-            format!("indexed_samples 1 10 3 0 3 {len}"),
-            format!("partial_shuffle 1 {len} 2"),
-            format!("shuffle zero {len}"),
+            format!("sample 1 10 3 9 {len} 0"),
+            format!("sample 1 10 3 9 3 {len}"),
+            format!("indexed_samples 1 {len} 3 9 3 0"),
+            format!("indexed_samples 1 10 3 9 {len} 0"),
+            format!("indexed_samples 1 10 3 9 3 {len}"),
+            format!("partial_shuffle 1 {len} 2 9"),
+            format!("shuffle zero {len} 9"),
             format!("tail 1 {len} 65534"),
             format!("head 1 {len} 3"),
-            format!("sample_fill 1 {len} 2"),
-            format!("sample_fill 1 2 {len}"),
+            format!("sample_fill 1 {len} 2 99999"),
+            format!("sample_fill 1 2 {len} 0"),
             format!("choose 1 {hinted} 9 1"),
             format!("choose_stable 1 {hinted} 9 0"),
             format!("choose 1 {len} 9 2 0"),
@@ -148,8 +149,11 @@ fn rooms() -> Section {
         assert!(asked.iter().all(|line| call(line).is_some() == is_good));
         lines.extend(asked);
     }
-    for name in ["tail", "head", "shuffle", "partial_shuffle", "sample_fill"] {
+    for name in ["tail", "head", "shuffle"] {
         lines.push(format!("{name} 1 18446744073709551615 1"));
+    }
+    for name in ["partial_shuffle", "sample_fill"] {
+        lines.push(format!("{name} 1 18446744073709551615 1 9"));
     }
     Section::of_lines(
         "Slices that take all the room, and those that do not fit",

@@ -1,5 +1,6 @@
 //! Random lines. Half of those that draw once are at a test of the draw.
 
+use reference::State;
 use reference::call::Call;
 use reference::choose_line::{Choosing, Hints};
 use reference::draw_line::Bounded;
@@ -9,6 +10,7 @@ use reference::line::{Line, Name, ROOM, ROOMS};
 use reference::sampling::Sampling;
 use reference::shuffle_line::Part;
 use reference::shuffling::{Shuffling, Whole};
+use reference::states::giving_three;
 use reference::weights_line::{Changed, Looking, Picking};
 use reference::words::{bounded, giving, rejecting};
 
@@ -62,8 +64,8 @@ fn call(name: Name, source: &mut Source) -> Call {
         Name::Seed => Call::Seed(source.state_or_zero()),
         Name::NextU64 => Call::NextU64(source.state_or_zero()),
         Name::NextU32 => Call::NextU32(source.state_or_zero()),
-        Name::RandomRange => Call::RandomRange(draw(source, bounded)),
-        Name::UniformInt => Call::UniformInt(draw(source, rejecting)),
+        Name::RandomRange => Call::RandomRange(draw(source, at_bounded)),
+        Name::UniformInt => Call::UniformInt(draw(source, at_rejecting)),
         Name::Sample => Call::Sample(sample(source)),
         Name::PartialShuffle => {
             let call = PartialShuffle::random(source);
@@ -95,19 +97,27 @@ fn call(name: Name, source: &mut Source) -> Call {
     }
 }
 
-/// A draw. Half of them start from a generator whose first two words are on one side or the other of a test of it, which these are.
-fn draw(source: &mut Source, pairs: fn(u32) -> Vec<(u32, u32)>) -> Bounded {
+/// A draw. Half of them start from a generator whose first words are on one side or the other of a test of it, which this gives.
+fn draw(source: &mut Source, at_tests: fn(&mut Source, u32) -> State) -> Bounded {
     let r = bound(source);
     let from = match source.below(2) {
-        0 => {
-            let (a, b) = source.one_of(&pairs(r));
-            // Four zeros are no state, and words of 0 may be wanted.
-            giving(a, b, source.even() | 1)
-        }
+        0 => at_tests(source, r),
         _ => source.state_or_zero(),
     };
     let budget = budget(source);
     Bounded { from, r, budget }
+}
+
+/// A generator whose first three words are at the tests of a bounded draw. Four zeros are no state, and words of 0 may be wanted.
+fn at_bounded(source: &mut Source, r: u32) -> State {
+    let row = source.one_of(&bounded(r));
+    giving_three(row, source.even() | 1)
+}
+
+/// The same of the first two words and a rejecting draw.
+fn at_rejecting(source: &mut Source, r: u32) -> State {
+    let (a, b) = source.one_of(&rejecting(r));
+    giving(a, b, source.even() | 1)
 }
 
 /// A bound of a draw: a small one, a large one or one near a power of two as often as not.
@@ -125,10 +135,10 @@ fn budget(source: &mut Source) -> u64 {
     }
 }
 
-/// A sample with slices for which the program has room. A quarter are of one index, which is a bounded draw without a budget.
+/// A sample with slices for which the program has room. A quarter are of one index, which is a bounded draw.
 fn sample(source: &mut Source) -> Sampling {
     if source.below(4) == 0 {
-        let Bounded { from, r, budget } = draw(source, bounded);
+        let Bounded { from, r, budget } = draw(source, at_bounded);
         return Sampling {
             from,
             length: r.into(),
@@ -253,7 +263,8 @@ mod tests {
     fn refusals(name: Name) -> &'static [usize] {
         match name {
             Name::Seed | Name::NextU64 | Name::Tail | Name::Head => &[],
-            Name::NextU32 | Name::PartialShuffle | Name::Shuffle | Name::SampleFill => &[12],
+            Name::NextU32 => &[12],
+            Name::PartialShuffle | Name::Shuffle | Name::SampleFill => &[12, 13],
             Name::RandomRange | Name::UniformInt => &[13],
             Name::Sample => &[1, 8, 9, 10, 12, 13],
             Name::IndexedSamples => &[8, 9, 12, 13],

@@ -315,7 +315,7 @@ mod tests {
             (Name::Seed, "answer-generator", "seed 0"),
             (Name::NextU32, "word-unadvanced", "next_u32 0"),
             (Name::Sample, "answer-value-more", "sample 0 0 0 0 0 0"),
-            (Name::Shuffle, "shuffle-moves-nothing", "shuffle 0 2"),
+            (Name::Shuffle, "shuffle-moves-nothing", "shuffle 0 2 1"),
             (Name::Weight, "weight-beyond", "weight 0 1 0 0 0 1"),
             (Name::Choose, "answer-value-more", "choose 0 0 0 0"),
         ] {

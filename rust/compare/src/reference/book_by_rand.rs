@@ -13,7 +13,7 @@ use crate::Counting;
 use crate::book::{Draw, Job, read};
 use crate::book_jobs::{Drawn, ENTRIES};
 use crate::draws::BUDGET_EXHAUSTED;
-use crate::methods::{Method, due, scratch};
+use crate::methods::scratch;
 use crate::plain_list::{INSUFFICIENT_NON_ZERO, NO_WEIGHTS, OVERFLOW};
 use crate::sampling::{AMOUNT_EXCEEDS_LENGTH, SCRATCH_TOO_SHORT, SLICE_TOO_SHORT};
 
@@ -74,7 +74,7 @@ fn sampled(rng: &mut Counting, length: u32, amount: u32, budget: u32) -> Drawn {
         return Err(SCRATCH_TOO_SHORT);
     }
     let indices = index::sample(rng, length as usize, amount as usize);
-    if due(length, amount) == Method::Rejection && rng.words() > budget.into() {
+    if rng.words() > budget.into() {
         return Err(BUDGET_EXHAUSTED);
     }
     Ok(indices.into_iter().map(|index| index as u32).collect())

@@ -160,18 +160,20 @@ mod tests {
     fn a_sample_is_refused_in_its_order() {
         for (job, due) in [
             (sample(0, 0, 0), "\n"),
-            (sample(1, 1, 0), "0\n"),
+            (sample(1, 1, 0), "refused 13\n"),
+            (sample(1, 1, 1), "0\n"),
             (sample(0, 1, 0), "refused 1\n"),
             (sample(8192, 8193, 0), "refused 1\n"),
             (sample(8193, 8193, 0), "refused 8\n"),
             (sample(8193, 8192, 0), "refused 9\n"),
+            (sample(8192, 8192, 8191), "refused 13\n"),
             (sample(44_009, 163, 0), "refused 9\n"),
             (sample(44_010, 163, 0), "refused 13\n"),
             (sample(u32::MAX, 163, 162), "refused 13\n"),
         ] {
             assert_eq!(line(job.clone()), due, "{job:?}");
         }
-        let all = line(sample(8192, 8192, 0));
+        let all = line(sample(8192, 8192, u32::MAX));
         assert_eq!(all.split_whitespace().count(), 8192);
         let many = line(sample(u32::MAX, 163, u32::MAX));
         assert_eq!(many.split(' ').count(), 163);
@@ -223,7 +225,7 @@ mod tests {
         assert_eq!(output(&[0; 4]), "");
         assert_eq!(output(&[0; 3]), "refused 14\n");
         assert_eq!(output(&[0; 5]), "refused 16\n");
-        let jobs = [sample(1, 1, 0), sample(0, 1, 0), pick(2, 1, &[0, 1])];
+        let jobs = [sample(1, 1, 1), sample(0, 1, 0), pick(2, 1, &[0, 1])];
         let book = write(&jobs).expect("a book");
         assert_eq!(output(&book), "0\nrefused 1\n1 1\n");
     }

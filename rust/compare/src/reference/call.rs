@@ -135,15 +135,18 @@ impl Call {
             Self::UniformInt(call) => draw(Name::UniformInt, call),
             Self::Sample(call) => line(Name::Sample, call.from, sample_line::numbers(call)),
             Self::PartialShuffle(call) => {
-                let numbers = vec![call.len as u64, call.amount];
+                let numbers = vec![call.len as u64, call.amount, call.budget];
                 line(Name::PartialShuffle, call.from, numbers)
             }
-            Self::Shuffle(call) => line(Name::Shuffle, call.from, vec![call.len as u64]),
+            Self::Shuffle(call) => {
+                let numbers = vec![call.len as u64, call.budget];
+                line(Name::Shuffle, call.from, numbers)
+            }
             Self::Tail(call) => parts(Name::Tail, call),
             Self::Head(call) => parts(Name::Head, call),
             Self::SampleFill(call) => {
-                let lengths = [call.items_len, call.buf_len].map(|len| len as u64);
-                line(Name::SampleFill, call.from, lengths.to_vec())
+                let numbers = [call.items_len as u64, call.buf_len as u64, call.budget];
+                line(Name::SampleFill, call.from, numbers.to_vec())
             }
             Self::IndexedSamples(call) => {
                 line(Name::IndexedSamples, call.from, sample_line::numbers(call))
@@ -171,10 +174,10 @@ impl Call {
             Self::RandomRange(call) => call.random_range(&calls.draws),
             Self::UniformInt(call) => call.uniform_int(&calls.draws),
             Self::Sample(call) => sampled(call, calls.sample),
-            Self::PartialShuffle(call) => shuffled(call.len, |items| {
-                (calls.partial_shuffle)(call.from, call.amount, items)
-            }),
-            Self::Shuffle(call) => shuffled(call.len, |items| (calls.shuffle)(call.from, items)),
+            Self::PartialShuffle(call) => {
+                shuffled(call.len, |items| (calls.partial_shuffle)(call, items))
+            }
+            Self::Shuffle(call) => shuffled(call.len, |items| (calls.shuffle)(call, items)),
             Self::Tail(call) => call.answer(calls.tail),
             Self::Head(call) => call.answer(calls.head),
             Self::SampleFill(call) => filled(call, calls.sample_fill),
@@ -192,22 +195,26 @@ fn alone(from: State, numbers: &[u64]) -> Option<State> {
     numbers.is_empty().then_some(from)
 }
 
-/// `partial_shuffle G LENGTH AMOUNT`.
+/// `partial_shuffle G LENGTH AMOUNT BUDGET`.
 fn partial(from: State, numbers: &[u64], room: usize) -> Option<Shuffling> {
-    let &[len, amount] = numbers else {
+    let &[len, amount, budget] = numbers else {
         return None;
     };
-    let len = length(len, room)?;
-    Some(Shuffling { from, len, amount })
+    Some(Shuffling {
+        from,
+        len: length(len, room)?,
+        amount,
+        budget,
+    })
 }
 
-/// `shuffle G LENGTH`.
+/// `shuffle G LENGTH BUDGET`.
 fn whole(from: State, numbers: &[u64], room: usize) -> Option<Whole> {
-    let &[len] = numbers else {
+    let &[len, budget] = numbers else {
         return None;
     };
     let len = length(len, room)?;
-    Some(Whole { from, len })
+    Some(Whole { from, len, budget })
 }
 
 /// `tail G LENGTH N`, `head G LENGTH N`.
@@ -219,14 +226,15 @@ fn part(from: State, numbers: &[u64], room: usize) -> Option<Part> {
     Some(Part { from, len, at })
 }
 
-/// `sample_fill G LENGTH AMOUNT`.
+/// `sample_fill G LENGTH AMOUNT BUDGET`.
 fn fill(from: State, numbers: &[u64], room: usize) -> Option<Filling> {
-    let &[items_len, buf_len] = numbers else {
+    let &[items_len, buf_len, budget] = numbers else {
         return None;
     };
     Some(Filling {
         from,
         items_len: length(items_len, room)?,
         buf_len: length(buf_len, room)?,
+        budget,
     })
 }

@@ -1,13 +1,12 @@
 //! Calls of `choose` and `choose_stable`, and how they end by rand's.
 
-use rand::Rng;
 use rand::seq::IteratorRandom;
 
 use crate::coins::Coins;
 use crate::draws::BUDGET_EXHAUSTED;
 use crate::sampling::Ended;
 use crate::shuffling;
-use crate::{Counting, State, counted, from_state, state};
+use crate::{Counting, State, advanced, counted};
 
 /// The number of document 01's table for hints that do not hold (there: "false hints").
 pub const INVALID_HINTS: u64 = 11;
@@ -129,11 +128,7 @@ pub fn end_by(
     }
     let (item, words, after) = counted(from, choose);
     if words > budget {
-        let mut rng = from_state(from);
-        for _ in 0..budget {
-            rng.next_u32();
-        }
-        return refused(BUDGET_EXHAUSTED, budget, state(&rng));
+        return refused(BUDGET_EXHAUSTED, budget, advanced(from, budget));
     }
     Chosen {
         number: 0,

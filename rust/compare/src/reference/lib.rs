@@ -24,6 +24,7 @@ pub mod sample_line;
 pub mod sampling;
 pub mod shuffle_line;
 pub mod shuffling;
+pub mod states;
 pub mod viewing;
 pub mod weighing;
 pub mod weights_line;
@@ -33,7 +34,7 @@ use std::convert::Infallible;
 use std::fmt::{self, Write};
 
 use rand::rngs::Xoshiro256PlusPlus;
-use rand::{SeedableRng, TryRng};
+use rand::{Rng, SeedableRng, TryRng};
 
 /// The four words of a generator's state.
 pub type State = [u64; 4];
@@ -113,6 +114,20 @@ pub fn from_state(words: State) -> Xoshiro256PlusPlus {
     let rng = Xoshiro256PlusPlus::from_seed(seed);
     assert_eq!(state(&rng), words, "rand's generator takes this state");
     rng
+}
+
+/// The state after so many words.
+///
+/// # Panics
+///
+/// If all four words are 0.
+#[must_use]
+pub fn advanced(from: State, words: u64) -> State {
+    let mut rng = from_state(from);
+    for _ in 0..words {
+        rng.next_u32();
+    }
+    state(&rng)
 }
 
 /// A generator that counts the words read from it, so that a count is never taken on trust from the way a call is written.

@@ -174,7 +174,7 @@ mod tests {
 
     #[test]
     fn a_line_is_written_as_it_is_read() {
-        for text in ["seed zero", "shuffle 1 20", "pick 7 1 2 3 0 0 4 5"] {
+        for text in ["seed zero", "shuffle 1 20 9", "pick 7 1 2 3 0 0 4 5"] {
             let line = Line::parse(text).map(|line| line.to_string());
             assert_eq!(line.as_deref(), Some(text));
         }
@@ -196,8 +196,11 @@ mod tests {
             "seeds 1",
             "seed one",
             "shuffle 1",
-            "shuffle 1 -3",
-            "shuffle 1 65538",
+            "shuffle 1 3",
+            "shuffle 1 -3 9",
+            "shuffle 1 65538 9",
+            "partial_shuffle 1 3 2",
+            "sample_fill 1 3 2",
             "random_range 1 0 9",
             "uniform_int 1 4294967296 9",
             "choose 1 3 9",
@@ -215,7 +218,11 @@ mod tests {
             assert!(call(text).is_none(), "{text}");
             assert_eq!(answer(text), "wrong");
         }
-        for text in ["seed 01", "shuffle 1 65537", "choose 1 65536 9 1"] {
+    }
+
+    #[test]
+    fn lines_with_all_the_room_are_calls() {
+        for text in ["seed 01", "shuffle 1 65537 9", "choose 1 65536 9 1"] {
             assert!(call(text).is_some(), "{text}");
         }
         let numbers = |count: usize| format!("weight 1 0 0 0 0{}", " 7".repeat(count - 4));

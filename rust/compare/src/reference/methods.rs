@@ -58,6 +58,8 @@ pub struct Sample {
     pub indices: Vec<u32>,
     /// The words read when each of them was drawn.
     pub words: Vec<u64>,
+    /// The values of the bounded draws, in order. By rejection none.
+    pub values: Vec<u32>,
     /// In place: all indices below the length, as they were exchanged. Else none.
     pub arranged: Vec<u32>,
 }
@@ -69,9 +71,16 @@ impl Sample {
         self.words.last().copied().unwrap_or(0)
     }
 
-    /// Adds the words of a draw.
+    /// Adds a draw.
     pub fn read(&mut self, drawn: Drawn) {
         self.words.push(self.words() + drawn.words);
+        self.values.push(drawn.value);
+    }
+
+    /// How many draws are finished with so many words, or by rejection how many indices are found.
+    #[must_use]
+    pub fn finished(&self, words: u64) -> usize {
+        self.words.partition_point(|&read| read <= words)
     }
 }
 
@@ -93,27 +102,43 @@ pub fn draw(
 fn floyd(rng: &mut Xoshiro256PlusPlus, length: u32, amount: u32, draws: &Draws) -> Sample {
     let mut sample = Sample::default();
     for j in length - amount..length {
-        let t = (draws.bounded)(rng, j + 1);
-        sample.read(t);
-        if let Some(equal) = sample.indices.iter_mut().find(|index| **index == t.value) {
+        sample.read((draws.bounded)(rng, j + 1));
+    }
+    sample.indices = entries(length - amount, &sample.values);
+    sample
+}
+
+/// The entries as draws of Floyd's method with these values leave them, the first being at this j.
+#[must_use]
+pub fn entries(first: u32, values: &[u32]) -> Vec<u32> {
+    let mut entries = Vec::new();
+    for (&t, j) in values.iter().zip(first..) {
+        if let Some(equal) = entries.iter_mut().find(|index| **index == t) {
             *equal = j;
         }
-        sample.indices.push(t.value);
+        entries.push(t);
     }
-    sample
+    entries
 }
 
 fn in_place(rng: &mut Xoshiro256PlusPlus, length: u32, amount: u32, draws: &Draws) -> Sample {
     let mut sample = Sample::default();
-    let mut places: Vec<u32> = (0..length).collect();
     for i in 0..amount {
-        let d = (draws.bounded)(rng, length - i);
-        sample.read(d);
-        places.swap(i as usize, (i + d.value) as usize);
+        sample.read((draws.bounded)(rng, length - i));
     }
-    sample.indices = places[..amount as usize].to_vec();
-    sample.arranged = places;
+    sample.arranged = arranged(length, &sample.values);
+    sample.indices = sample.arranged[..amount as usize].to_vec();
     sample
+}
+
+/// All indices below the length, as exchanges by draws with these values arrange them.
+#[must_use]
+pub fn arranged(length: u32, values: &[u32]) -> Vec<u32> {
+    let mut places: Vec<u32> = (0..length).collect();
+    for (i, &d) in values.iter().enumerate() {
+        places.swap(i, i + d as usize);
+    }
+    places
 }
 
 fn rejection(rng: &mut Xoshiro256PlusPlus, length: u32, amount: u32, draws: &Draws) -> Sample {
@@ -197,12 +222,32 @@ pub fn seen(rng: &Xoshiro256PlusPlus, length: u32, amount: u32) -> Vec<Method> {
     tried.filter(gives).collect()
 }
 
+/// The bounds of the draws that Floyd's method or the one in place makes, in their order. By rejection there are no bounded draws.
+#[must_use]
+pub fn bounds(length: u32, amount: u32) -> Vec<u32> {
+    match due(length, amount) {
+        Method::Floyd => (length - amount..length).map(|j| j + 1).collect(),
+        Method::InPlace => (0..amount).map(|i| length - i).collect(),
+        Method::Rejection => Vec::new(),
+    }
+}
+
 #[cfg(test)]
 mod tests {
     use rand::SeedableRng;
     use rand::rngs::Xoshiro256PlusPlus;
 
-    use super::{Method, due, floyd_from, seen};
+    use super::{Method, arranged, due, entries, floyd_from, seen};
+
+    /// Document 01's marked samples of two out of three, and what the first draw alone leaves; and two exchanges of four places.
+    #[test]
+    fn values_of_draws_make_samples() {
+        assert_eq!(entries(1, &[1, 1]), [2, 1]);
+        assert_eq!(entries(1, &[0, 0]), [2, 0]);
+        assert_eq!(entries(1, &[1]), [1]);
+        assert_eq!(arranged(4, &[2, 2]), [2, 3, 0, 1]);
+        assert_eq!(arranged(4, &[]), [0, 1, 2, 3]);
+    }
 
     /// Document 01's marked choices, each seen in rand's own sample.
     #[test]

@@ -64,7 +64,7 @@ mod tests {
         from: [1, 2, 3, 4],
         length: 1,
         amount: 1,
-        budget: 0,
+        budget: 1,
         indices_len: 2,
         scratch_len: 1,
     };

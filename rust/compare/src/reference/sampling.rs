@@ -1,13 +1,12 @@
 //! Calls of `sample`, and how they end by rand's draws.
 
-use rand::Rng;
 use rand::rngs::Xoshiro256PlusPlus;
 use rand::seq::index;
 
 use crate::draws::BUDGET_EXHAUSTED;
-use crate::methods::{Method, Sample, by_rand, due};
+use crate::methods::{Method, Sample, arranged, by_rand, due, entries};
 use crate::panics::panics;
-use crate::{State, from_state, state};
+use crate::{State, advanced, from_state, state};
 
 /// The numbers of document 01's table for the other refusals. Its word for each: "overdrawn", "short tray", "short bench",
 /// "too long", "dead generator".
@@ -49,6 +48,17 @@ impl Ended {
             state: from,
         }
     }
+
+    /// A refusal that has read its budget and tells of nothing that was done.
+    #[must_use]
+    pub fn spent(budget: u64, from: State) -> Self {
+        Self {
+            number: BUDGET_EXHAUSTED,
+            count: 0,
+            words: budget,
+            state: advanced(from, budget),
+        }
+    }
 }
 
 /// A way to end a call of `sample`, which leaves the two slices as they then are.
@@ -69,16 +79,14 @@ impl Sampling {
             return self.refused(number);
         }
         let (length, amount) = (self.length as u32, self.amount as u32);
+        let method = due(length, amount);
+        if method == Method::InPlace && (self.scratch_len as u64) < self.length {
+            return self.refused(SCRATCH_TOO_SHORT);
+        }
         let mut rng = from_state(self.from);
         let sample = drawing(&mut rng, length, amount);
-        match due(length, amount) {
-            Method::InPlace if (self.scratch_len as u64) < self.length => {
-                return self.refused(SCRATCH_TOO_SHORT);
-            }
-            Method::Rejection if sample.words() > self.budget => {
-                return self.spent(&sample, indices);
-            }
-            _ => {}
+        if sample.words() > self.budget {
+            return self.spent(&sample, indices, scratch);
         }
         indices[..sample.indices.len()].copy_from_slice(&sample.indices);
         scratch[..sample.arranged.len()].copy_from_slice(&sample.arranged);
@@ -123,20 +131,109 @@ impl Sampling {
         Ended::refused(number, self.from)
     }
 
-    /// The end where the budget is used up. rand knows none: these are the indices of its sample that it has drawn when it
-    /// has read so many words.
-    fn spent(&self, sample: &Sample, indices: &mut [u32]) -> Ended {
-        let count = sample.words.partition_point(|&words| words <= self.budget);
-        indices[..count].copy_from_slice(&sample.indices[..count]);
-        let mut rng = from_state(self.from);
-        for _ in 0..self.budget {
-            rng.next_u32();
-        }
+    /// The end where the budget is used up. rand knows none: the slices are left as the method leaves them with those of its draws that
+    /// are finished when so many words are read.
+    fn spent(&self, sample: &Sample, indices: &mut [u32], scratch: &mut [u32]) -> Ended {
+        let (length, amount) = (self.length as u32, self.amount as u32);
+        let finished = sample.finished(self.budget);
+        let written = match due(length, amount) {
+            Method::Floyd => entries(length - amount, &sample.values[..finished]),
+            Method::InPlace => {
+                let places = arranged(length, &sample.values[..finished]);
+                scratch[..places.len()].copy_from_slice(&places);
+                Vec::new()
+            }
+            Method::Rejection => sample.indices[..finished].to_vec(),
+        };
+        indices[..written.len()].copy_from_slice(&written);
         Ended {
-            number: BUDGET_EXHAUSTED,
-            count: count as u64,
-            words: self.budget,
-            state: state(&rng),
+            count: written.len() as u64,
+            ..Ended::spent(self.budget, self.from)
         }
+    }
+}
+
+#[cfg(test)]
+mod tests {
+    use super::{Ended, Sampling};
+    use crate::advanced;
+    use crate::states::{at_last_draw, giving_three};
+
+    const FROM: [u64; 4] = [1, 2, 3, 4];
+
+    /// How a sample ends, and the front of its two slices.
+    fn end(call: &Sampling) -> (Ended, Vec<u32>, Vec<u32>) {
+        let mut indices = vec![9; call.indices_len];
+        let mut scratch = vec![9; call.scratch_len];
+        let ended = call.end(&mut indices, &mut scratch);
+        (ended, indices, scratch)
+    }
+
+    fn call(length: u64, amount: u64, budget: u64) -> Sampling {
+        Sampling {
+            from: FROM,
+            length,
+            amount,
+            budget,
+            indices_len: amount as usize,
+            scratch_len: length as usize,
+        }
+    }
+
+    /// Words of 0 draw 0 each time, and each but the first replaces the entry before.
+    #[test]
+    fn a_spent_floyd_has_its_replacements() {
+        let from = giving_three([0; 3], 1);
+        for (budget, left) in [(0, [9; 4]), (1, [0, 9, 9, 9]), (3, [4, 5, 0, 9])] {
+            let call = Sampling {
+                from,
+                ..call(7, 4, budget)
+            };
+            let (ended, indices, scratch) = end(&call);
+            assert_eq!((ended.number, ended.words), (13, budget));
+            assert_eq!((ended.count, ended.state), (budget, advanced(from, budget)));
+            assert_eq!((&indices[..], &scratch[..]), (&left[..], &[9; 7][..]));
+        }
+    }
+
+    #[test]
+    fn a_spent_in_place_has_its_exchanges_alone() {
+        let (_, _, whole) = end(&call(20, 12, 99));
+        for budget in 0..12 {
+            let (ended, indices, scratch) = end(&call(20, 12, budget));
+            assert_eq!((ended.number, ended.count, ended.words), (13, 0, budget));
+            assert_eq!(indices, [9; 12]);
+            let done = budget as usize;
+            assert_eq!(scratch[..done], whole[..done]);
+            let mut all = scratch;
+            all.sort_unstable();
+            assert!(all.into_iter().eq(0..20));
+        }
+        assert_eq!(end(&call(20, 12, 0)).2[0], 0);
+    }
+
+    /// The third draw, below 6, reads three words: a budget that ends among them leaves two draws, and all of it is read.
+    #[test]
+    fn a_budget_that_ends_within_a_draw_is_read() {
+        let from = at_last_draw(&[4, 5, 6], [715_827_882, 2_863_311_530, 0], 1);
+        for budget in 2..5 {
+            let call = Sampling {
+                from,
+                ..call(6, 3, budget)
+            };
+            let (ended, _, _) = end(&call);
+            assert_eq!((ended.number, ended.count, ended.words), (13, 2, budget));
+            assert_eq!(ended.state, advanced(from, budget));
+        }
+        let (ended, _, _) = end(&Sampling {
+            from,
+            ..call(6, 3, 5)
+        });
+        assert_eq!((ended.number, ended.words), (0, 5));
+    }
+
+    #[test]
+    fn no_index_needs_no_word() {
+        assert_eq!(end(&call(7, 0, 0)).0, Ended::refused(0, FROM));
     }
 }

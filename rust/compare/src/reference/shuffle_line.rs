@@ -12,7 +12,7 @@ pub fn items(len: usize) -> Vec<u32> {
     (0..).take(len).collect()
 }
 
-/// The answer to a shuffle that `end` ends: the tail, and the digest of the items.
+/// The answer to a shuffle that `end` ends: the tail, which a refusal does not show, and the digest of the items.
 pub fn shuffled(len: usize, end: impl FnOnce(&mut [u32]) -> Outcome) -> Answer {
     let mut items = items(len);
     let (ended, parts) = end(&mut items);
@@ -56,11 +56,11 @@ impl Part {
     }
 }
 
-/// The answer to a fill that `fill` ends: the slots filled, and the digest of the buffer.
+/// The answer to a fill that `fill` ends: the slots filled, none where it is refused, and the digest of the buffer.
 #[must_use]
 pub fn filled(call: &Filling, fill: Fill) -> Answer {
     let mut buf = vec![CANARY; call.buf_len];
-    let ended = fill(call.from, &items(call.items_len), &mut buf);
+    let ended = fill(call, &items(call.items_len), &mut buf);
     Answer::new(&ended, &[&buf], &buf[..ended.count as usize])
 }
 
@@ -69,7 +69,7 @@ mod tests {
     use super::{Part, filled, head, shuffled, tail};
     use crate::answer::digest;
     use crate::filling::{Filling, sample_fill};
-    use crate::shuffling::{partial_shuffle, shuffle};
+    use crate::shuffling::{Shuffling, Whole, partial_shuffle, shuffle};
     use crate::words::giving;
 
     #[test]
@@ -94,16 +94,27 @@ mod tests {
     /// The word 63 gives chunk 7, which turns three items round.
     #[test]
     fn a_shuffle_shows_its_tail() {
+        let call = |from, budget| Whole {
+            from,
+            len: 3,
+            budget,
+        };
         let from = giving(63, 0, 1);
-        let whole = shuffled(3, |items| shuffle(from, items));
+        let whole = shuffled(3, |items| shuffle(&call(from, 1), items));
         assert_eq!((whole.values.as_slice(), whole.words), (&[2, 1, 0][..], 1));
         assert_eq!(whole.digest, digest(&[&[2, 1, 0]]));
-        let none = shuffled(3, |items| partial_shuffle(from, 0, items));
+        let none = Shuffling {
+            amount: 0,
+            ..call(from, 0).as_partial()
+        };
+        let none = shuffled(3, |items| partial_shuffle(&none, items));
         assert_eq!((none.values.as_slice(), none.words), (&[][..], 0));
         assert_eq!(none.digest, digest(&[&[0, 1, 2]]));
-        let refused = shuffled(3, |items| shuffle([0; 4], items));
-        assert_eq!((refused.values.as_slice(), refused.number), (&[][..], 12));
-        assert_eq!(refused.digest, none.digest);
+        for (from, number) in [([0; 4], 12), (from, 13)] {
+            let refused = shuffled(3, |items| shuffle(&call(from, 0), items));
+            assert_eq!((refused.number, refused.values.len()), (number, 0));
+            assert_eq!(refused.digest, none.digest);
+        }
     }
 
     #[test]
@@ -112,9 +123,19 @@ mod tests {
             from: [1, 2, 3, 4],
             items_len: 2,
             buf_len: 3,
+            budget: 0,
         };
         let answer = filled(&call, sample_fill);
         assert_eq!((answer.values.as_slice(), answer.words), (&[0, 1][..], 0));
         assert_eq!(answer.digest, digest(&[&[0, 1, u32::MAX]]));
+        let spent = filled(
+            &Filling {
+                items_len: 5,
+                ..call
+            },
+            sample_fill,
+        );
+        assert_eq!((spent.number, spent.values.len()), (13, 0));
+        assert_eq!(spent.digest, digest(&[&[0, 1, 2]]));
     }
 }

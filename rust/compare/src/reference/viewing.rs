@@ -131,7 +131,7 @@ mod tests {
             from: [1, 2, 3, 4],
             length: 5,
             amount: 9,
-            budget: 0,
+            budget: 9,
             indices_len: 7,
             scratch_len: 0,
         };

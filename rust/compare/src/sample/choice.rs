@@ -1,5 +1,6 @@
-//! The choice of the method, over all lengths and amounts. It is seen without memory: with an empty scratch slice and a budget
-//! of 0 the port refuses with 9 where the method in place is due, with 13 where rejection is, and draws where Floyd's is.
+//! The choice of the method, over all lengths and amounts. It is seen without memory: with an empty scratch slice the port refuses with 9
+//! where the method in place is due. With a budget of one word, which is the greatest, Floyd's method and the one by rejection both
+//! answer 13, but have drawn another index: the last below its bound.
 
 use std::cell::RefCell;
 
@@ -8,6 +9,7 @@ use gapyndura::{Refusal, Xoshiro256PlusPlus as Port};
 use rand::SeedableRng;
 use rand::rngs::Xoshiro256PlusPlus as Rand;
 use reference::methods::{Method, due, floyd_from, seen};
+use reference::words::giving;
 
 use crate::inputs::{Source, smaller};
 use crate::kind::Kind;
@@ -139,14 +141,20 @@ impl Kind for Choice {
         if self.asks_before && (13..=162).contains(&amount) {
             return Some(due(length, amount - 1));
         }
-        let mut rng = Port::from_state([1, 2, 3, 4]);
+        let mut rng = Port::from_state(giving(u32::MAX, 0, 1));
         let mut indices = self.indices.borrow_mut();
         let indices = &mut indices[..amount as usize];
-        let result = sample(&mut rng, length.into(), amount.into(), 0, indices, &mut []);
-        match result.map_err(|error| error.refusal) {
+        let result = sample(&mut rng, length.into(), amount.into(), 1, indices, &mut []);
+        match result.map_err(|error| (error.refusal, error.so_far.count)) {
+            // No index, or one, which is then the last below the length.
             Ok(_) => Some(Method::Floyd),
-            Err(Refusal::ScratchTooShort) => Some(Method::InPlace),
-            Err(Refusal::BudgetExhausted) => Some(Method::Rejection),
+            Err((Refusal::ScratchTooShort, 0)) => Some(Method::InPlace),
+            // Floyd's first draw is below the least length that has room for the others.
+            Err((Refusal::BudgetExhausted, 1)) => match length - indices[0] {
+                1 => Some(Method::Rejection),
+                least if least == amount => Some(Method::Floyd),
+                _ => None,
+            },
             Err(_) => None,
         }
     }

@@ -1,9 +1,11 @@
 //! The samples that every run tries: small ones without gap, and those at the bounds of the rules.
 
-use reference::methods::{by_rand, scratch};
+use reference::methods::{bounds, by_rand, scratch};
 use reference::sampling::Sampling;
 use reference::words::{HALF_DROPPED, giving, rejecting};
 use reference::{State, from_state, some_state};
+
+use crate::inputs::at_draws;
 
 /// Every amount is tried at every length to this one, from so many generators.
 const SMALL: u64 = 40;
@@ -46,12 +48,42 @@ const AT_BOUNDS: [(u64, u64); 6] = [
 const ROUNDED: [(u64, u64); 2] = [(16_777_346, 0), (16_777_347, 60_000)];
 const ROUNDED_AMOUNT: u64 = 457_564;
 
-/// Samples by rejection that are given every budget: few and many words dropped, and indices drawn twice.
-const UNDER_BUDGETS: [(u64, u64); 4] = [
+/// Samples that are given every budget. Floyd's: no index and one, entries that are replaced, and draws that read two words as often as
+/// not. In place: all places and few of many. By rejection: few and many words dropped, and indices drawn twice.
+const UNDER_BUDGETS: [(u64, u64); 15] = [
+    (7, 0),
+    (1, 1),
+    (4_294_967_295, 1),
+    (11, 11),
+    (351, 12),
+    (43_611, 162),
+    (4_294_967_295, 100),
+    (12, 12),
+    (350, 12),
+    (200, 163),
+    (44_009, 163),
     (44_010, 163),
     (4_294_967_295, 164),
     (HALF_DROPPED as u64, 163),
     (500_000, 2000),
+];
+
+/// Samples of which a bounded draw has words on both sides of its tests: small bounds and large ones, by Floyd's method and in place.
+const AT_DRAWS: [(u64, u64); 14] = [
+    (1, 1),
+    (6, 1),
+    (3, 2),
+    (20, 11),
+    (1000, 5),
+    (HALF_DROPPED as u64, 3),
+    (4_294_967_295, 1),
+    (4_294_967_295, 11),
+    (500_001, 40),
+    (12, 12),
+    (20, 15),
+    (350, 12),
+    (43_610, 162),
+    (44_009, 163),
 ];
 
 /// Samples by rejection whose first two words are on one side or the other of the draw's test: few words dropped, or half of them.
@@ -97,6 +129,7 @@ pub fn longer(call: &Sampling, by: usize) -> Sampling {
 
 /// Hands over all of them.
 pub fn calls(mut visit: impl FnMut(Sampling)) {
+    long_draws(&mut visit);
     small(&mut visit);
     for amount in AMOUNTS {
         let equal = [amount, amount + 1];
@@ -124,6 +157,22 @@ pub fn calls(mut visit: impl FnMut(Sampling)) {
     }
     for (length, amount) in [(20, 11), (40, 12), (44_010, 163)] {
         refusals(&exact(some_state(length), length, amount), &mut visit);
+    }
+}
+
+/// Samples of which a draw has words on both sides of its tests; and one that needs no word and has no budget.
+fn long_draws(visit: &mut impl FnMut(Sampling)) {
+    visit(Sampling {
+        budget: 0,
+        ..exact(some_state(1), 7, 0)
+    });
+    for (length, amount) in AT_DRAWS {
+        at_draws(&bounds(length as u32, amount as u32), |from, budget| {
+            visit(Sampling {
+                budget,
+                ..longer(&exact(from, length, amount), 2)
+            });
+        });
     }
 }
 

@@ -2,7 +2,7 @@
 //! both slices whole, with entries around them that no call may change.
 
 pub mod choice;
-mod faults;
+pub mod faults;
 pub mod fixed;
 pub mod port;
 pub mod random;
@@ -12,7 +12,6 @@ use reference::sampling::{End, Ended, Sampling};
 use crate::inputs::{Source, smaller, smaller_states};
 use crate::kind::Kind;
 use crate::slices::Lent;
-use faults::FAULTS;
 
 /// Calls of `sample`, each from a generator of its own.
 pub struct Sample {
@@ -49,10 +48,8 @@ impl Kind for Sample {
     type Answer = Answer;
 
     fn new(plant: Option<&str>) -> Self {
-        let mut faults = FAULTS.into_iter();
-        let fault = faults.find(|(name, _)| Some(*name) == plant);
         Self {
-            fault: fault.map(|(_, fault)| fault),
+            fault: faults::planted(plant),
         }
     }
 

@@ -1,7 +1,7 @@
 //! Random samples.
 
 use reference::State;
-use reference::methods::{Method, due};
+use reference::methods::{Method, bounds, due};
 use reference::sampling::Sampling;
 use reference::words::{giving, rejecting};
 
@@ -10,6 +10,9 @@ use crate::inputs::Source;
 
 /// The slices of a random call are no longer.
 const LONGEST: u64 = 60_000;
+
+/// No draw of a sample of more indices is looked for.
+const MOST_DRAWN: u32 = 1000;
 
 /// A random sample. Most are small.
 pub fn call(source: &mut Source) -> Sampling {
@@ -27,12 +30,17 @@ pub fn call(source: &mut Source) -> Sampling {
     }
 }
 
-/// A generator; where the sample is one by rejection, half the time one whose first two words are on one side or the other of the draw's test.
-fn start(length: u64, amount: u64, source: &mut Source) -> State {
-    match (u32::try_from(length), u32::try_from(amount)) {
-        (Ok(r), Ok(amount)) if due(r, amount) == Method::Rejection && source.below(2) == 0 => {
+/// A generator; where the sample is one by rejection, half the time one whose first two words are on one side or the other of the draw's
+/// test, and else now and then one with which a draw of the sample is.
+pub fn start(length: u64, amount: u64, source: &mut Source) -> State {
+    let sizes = u32::try_from(length).and_then(|length| Ok((length, u32::try_from(amount)?)));
+    match sizes {
+        Ok((r, amount)) if due(r, amount) == Method::Rejection && source.below(2) == 0 => {
             let (a, b) = source.one_of(&rejecting(r));
             giving(a, b, source.even() | 1)
+        }
+        Ok((length, amount)) if amount <= length.min(MOST_DRAWN) => {
+            source.state_at_draws(&bounds(length, amount))
         }
         _ => source.state_or_zero(),
     }

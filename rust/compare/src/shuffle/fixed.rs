@@ -2,8 +2,11 @@
 
 use std::iter;
 
-use reference::shuffling::{Shuffling, Whole, chunk};
-use reference::some_state;
+use reference::draws::bounded;
+use reference::shuffling::{Exchanges, Shuffling, Whole, bounds, chunk};
+use reference::{State, some_state};
+
+use crate::inputs::at_draws;
 
 /// Every amount to two above the length is tried at every length to this one, from so many generators.
 const SMALL: usize = 40;
@@ -20,13 +23,45 @@ const LONG: [usize; 8] = [
 /// Amounts that are tried at every length where a partial shuffle is not tried with all.
 const AMOUNTS: [u64; 8] = [0, 1, 2, 3, 12, 100, 1 << 32, u64::MAX];
 
+/// Lengths and amounts of partial shuffles that are given every budget, and of which a draw has words on both sides of its tests: no
+/// item and one, one draw, several chunks, and chunks of one index.
+const UNDER_BUDGETS: [(usize, u64); 12] = [
+    (0, 0),
+    (1, 1),
+    (9, 0),
+    (2, 2),
+    (13, 13),
+    (30, 11),
+    (30, u64::MAX),
+    (100, 99),
+    (1000, 40),
+    (65_537, 5),
+    (70_000, 20),
+    (100_000, 2),
+];
+
+/// Lengths of whole shuffles of which the same is tried.
+const WHOLE_UNDER_BUDGETS: [usize; 8] = [0, 1, 2, 12, 13, 20, 100, 1000];
+
+/// A partial shuffle with a budget that suffices.
+fn enough(from: State, len: usize, amount: u64) -> Shuffling {
+    Shuffling {
+        from,
+        len,
+        amount,
+        budget: u64::MAX,
+    }
+}
+
 /// Hands over the partial shuffles.
 pub fn partial(mut visit: impl FnMut(Shuffling)) {
+    for (len, amount) in UNDER_BUDGETS {
+        under_budgets(len, amount, &mut visit);
+    }
     for number in 0..GENERATORS {
         for len in 0..=SMALL {
             for amount in 0..=len as u64 + 2 {
-                let from = some_state(number);
-                visit(Shuffling { from, len, amount });
+                visit(enough(some_state(number), len, amount));
             }
         }
     }
@@ -36,16 +71,34 @@ pub fn partial(mut visit: impl FnMut(Shuffling)) {
     for (number, len) in (0..).zip(LONG) {
         let near = [len as u64 - 1, len as u64, len as u64 + 1];
         for amount in AMOUNTS.into_iter().chain(near) {
-            let from = some_state(number);
-            visit(Shuffling { from, len, amount });
+            visit(enough(some_state(number), len, amount));
         }
     }
     for len in [0, 1, 2, 13, 1000] {
         for amount in AMOUNTS {
-            let from = [0; 4];
-            visit(Shuffling { from, len, amount });
+            for budget in [0, u64::MAX] {
+                visit(Shuffling {
+                    budget,
+                    ..enough([0; 4], len, amount)
+                });
+            }
         }
     }
+}
+
+/// A partial shuffle with every budget from 0 to more than it needs, and with those around a draw that has words at its tests.
+fn under_budgets(len: usize, amount: u64, visit: &mut impl FnMut(Shuffling)) {
+    let mut with = |from, budget| {
+        visit(Shuffling {
+            budget,
+            ..enough(from, len, amount)
+        });
+    };
+    for from in (0..5).map(some_state) {
+        let needed = Exchanges::new(&enough(from, len, amount), bounded).words();
+        (0..=needed + 2).for_each(|budget| with(from, budget));
+    }
+    at_draws(&bounds(len, amount), with);
 }
 
 /// For each number of factors that a chunk can have, the last place n at which it still has them.
@@ -65,11 +118,8 @@ fn at_start(number: u64, start: u32, visit: &mut impl FnMut(Shuffling)) {
     for n in start.saturating_sub(2)..=start + 2 {
         for amount in 0..=2 * u64::from(chunk(n + 1).1) + 2 {
             for generator in 0..5 {
-                visit(Shuffling {
-                    from: some_state(number * 5 + generator),
-                    len: n as usize + amount as usize,
-                    amount,
-                });
+                let from = some_state(number * 5 + generator);
+                visit(enough(from, n as usize + amount as usize, amount));
             }
         }
     }
@@ -77,25 +127,26 @@ fn at_start(number: u64, start: u32, visit: &mut impl FnMut(Shuffling)) {
 
 /// Hands over the whole shuffles.
 pub fn whole(mut visit: impl FnMut(Whole)) {
+    let mut with = |from, len, budget| visit(Whole { from, len, budget });
     for number in 0..GENERATORS {
-        for len in 0..=SMALL {
-            let from = some_state(number);
-            visit(Whole { from, len });
-        }
+        (0..=SMALL).for_each(|len| with(some_state(number), len, u64::MAX));
     }
     for (number, end) in (0..).zip(chunk_ends()) {
         for len in [end - 1, end, end + 1] {
-            let from = some_state(number);
-            visit(Whole { from, len });
+            with(some_state(number), len, u64::MAX);
         }
     }
     for (number, len) in (0..).zip(LONG) {
-        let from = some_state(number);
-        visit(Whole { from, len });
+        with(some_state(number), len, u64::MAX);
+    }
+    for len in WHOLE_UNDER_BUDGETS {
+        under_budgets(len, len as u64, &mut |call: Shuffling| {
+            with(call.from, len, call.budget);
+        });
     }
     for len in [0, 1, 2, 13, 1000] {
-        let from = [0; 4];
-        visit(Whole { from, len });
+        with([0; 4], len, 0);
+        with([0; 4], len, u64::MAX);
     }
 }
 

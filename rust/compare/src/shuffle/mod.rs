@@ -12,7 +12,6 @@ use reference::shuffling::{self, Outcome, Parts, Shuffling, Whole, partial_shuff
 use crate::inputs::{Source, smaller, smaller_states};
 use crate::kind::Kind;
 use crate::slices::Lent;
-use faults::{MOVES_NOTHING, OFF_BY_ONE, moves_nothing, tail_off_by_one};
 
 pub use random::length;
 
@@ -49,23 +48,14 @@ impl Answer {
 
 impl Kind for PartialShuffle {
     const NAME: &'static str = "partial_shuffle";
-    const FAULTS: &'static [&'static str] = &[MOVES_NOTHING, OFF_BY_ONE];
+    const FAULTS: &'static [&'static str] = &faults::OF_PARTIAL;
     const PARTS: usize = 2;
     type Input = Shuffling;
     type Answer = Answer;
 
     fn new(plant: Option<&str>) -> Self {
         Self {
-            end: match plant {
-                Some(MOVES_NOTHING) => |from, amount, items| {
-                    moves_nothing(items, |items| port::partial_shuffle(from, amount, items))
-                },
-                Some(OFF_BY_ONE) => |from, amount, items| {
-                    let outcome = port::partial_shuffle(from, amount, items);
-                    tail_off_by_one(outcome, items.len())
-                },
-                _ => port::partial_shuffle,
-            },
+            end: faults::planted(plant).unwrap_or(port::partial_shuffle),
         }
     }
 
@@ -78,39 +68,43 @@ impl Kind for PartialShuffle {
     }
 
     fn smaller(call: &Shuffling) -> Vec<Shuffling> {
-        let Shuffling { from, len, amount } = *call;
-        let with = |from, len, amount| Shuffling { from, len, amount };
-        let lens = smaller(len as u64).map(|less| with(from, less as usize, amount));
-        let amounts = smaller(amount).map(|less| with(from, len, less));
-        let states = smaller_states(from).map(|less| with(less, len, amount));
-        lens.chain(amounts).chain(states).collect()
+        let lens = smaller(call.len as u64).map(|less| Shuffling {
+            len: less as usize,
+            ..call.clone()
+        });
+        let amounts = smaller(call.amount).map(|amount| Shuffling {
+            amount,
+            ..call.clone()
+        });
+        let budgets = smaller(call.budget).map(|budget| Shuffling {
+            budget,
+            ..call.clone()
+        });
+        let states = smaller_states(call.from).map(|from| Shuffling {
+            from,
+            ..call.clone()
+        });
+        lens.chain(amounts).chain(budgets).chain(states).collect()
     }
 
     fn rand(call: &Shuffling) -> Answer {
-        Answer::new(call.len, |items| {
-            partial_shuffle(call.from, call.amount, items)
-        })
+        Answer::new(call.len, |items| partial_shuffle(call, items))
     }
 
     fn port(&self, call: &Shuffling) -> Answer {
-        Answer::new(call.len, |items| (self.end)(call.from, call.amount, items))
+        Answer::new(call.len, |items| (self.end)(call, items))
     }
 }
 
 impl Kind for Shuffle {
     const NAME: &'static str = "shuffle";
-    const FAULTS: &'static [&'static str] = &[MOVES_NOTHING];
+    const FAULTS: &'static [&'static str] = &faults::NAMES;
     type Input = Whole;
     type Answer = Answer;
 
     fn new(plant: Option<&str>) -> Self {
         Self {
-            end: match plant {
-                Some(MOVES_NOTHING) => {
-                    |from, items| moves_nothing(items, |items| port::shuffle(from, items))
-                }
-                _ => port::shuffle,
-            },
+            end: faults::planted_whole(plant).unwrap_or(port::shuffle),
         }
     }
 
@@ -123,20 +117,19 @@ impl Kind for Shuffle {
     }
 
     fn smaller(call: &Whole) -> Vec<Whole> {
-        let Whole { from, len } = *call;
-        let lens = smaller(len as u64).map(|less| Whole {
-            from,
-            len: less as usize,
-        });
-        let states = smaller_states(from).map(|from| Whole { from, len });
-        lens.chain(states).collect()
+        let Whole { from, len, budget } = *call;
+        let with = |from, len, budget| Whole { from, len, budget };
+        let lens = smaller(len as u64).map(|less| with(from, less as usize, budget));
+        let budgets = smaller(budget).map(|less| with(from, len, less));
+        let states = smaller_states(from).map(|less| with(less, len, budget));
+        lens.chain(budgets).chain(states).collect()
     }
 
     fn rand(call: &Whole) -> Answer {
-        Answer::new(call.len, |items| shuffle(call.from, items))
+        Answer::new(call.len, |items| shuffle(call, items))
     }
 
     fn port(&self, call: &Whole) -> Answer {
-        Answer::new(call.len, |items| (self.end)(call.from, items))
+        Answer::new(call.len, |items| (self.end)(call, items))
     }
 }

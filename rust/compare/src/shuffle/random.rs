@@ -1,12 +1,12 @@
 //! Random shuffles. Most are small.
 
-use reference::shuffling::{Shuffling, Whole};
+use reference::shuffling::{Shuffling, Whole, bounds};
 
 use crate::inputs::Source;
+use crate::sample::random::budget;
 
 /// A random partial shuffle.
 pub fn partial(source: &mut Source) -> Shuffling {
-    let from = source.state_or_zero();
     let len = length(source);
     let amount = match source.below(16) {
         0 => source.u64(),
@@ -14,14 +14,23 @@ pub fn partial(source: &mut Source) -> Shuffling {
         2..8 => source.below(40).into(),
         _ => source.below(len as u32 + 2).into(),
     };
-    Shuffling { from, len, amount }
+    let bounds = bounds(len, amount);
+    Shuffling {
+        from: source.state_at_draws(&bounds),
+        len,
+        amount,
+        budget: budget(source, bounds.len() as u64),
+    }
 }
 
 /// A random shuffle.
 pub fn whole(source: &mut Source) -> Whole {
+    let len = length(source);
+    let bounds = bounds(len, len as u64);
     Whole {
-        from: source.state_or_zero(),
-        len: length(source),
+        from: source.state_at_draws(&bounds),
+        len,
+        budget: budget(source, bounds.len() as u64),
     }
 }
 

@@ -2,10 +2,12 @@
 
 use gapyndura::slice::IndexedSamples;
 use reference::sampling::{Ended, Sampling};
-use reference::viewing::Walk;
+use reference::viewing::{View, Walk};
 
 use super::port::{view, view_by};
+use crate::draw_faults;
 use crate::sample;
+use crate::sample::faults::WITH_DRAWS;
 
 /// A step that shows its item and stays at its place.
 pub const STAYS: &str = "view-stays";
@@ -55,6 +57,34 @@ pub fn not_clipped(
         return (ended, Walk::default());
     }
     view(call, items, indices, scratch)
+}
+
+/// The views with each fault of the bounded draw.
+pub const OF_DRAWS: [View; draw_faults::NAMES.len()] = [
+    with_draw::<0>,
+    with_draw::<1>,
+    with_draw::<2>,
+    with_draw::<3>,
+];
+
+/// A view with a fault of the bounded draw.
+fn with_draw<const FAULT: usize>(
+    call: &Sampling,
+    items: &[u32],
+    indices: &mut [u32],
+    scratch: &mut [u32],
+) -> (Ended, Walk) {
+    let clipped = Sampling {
+        amount: call.amount.min(call.length),
+        ..call.clone()
+    };
+    let ended = WITH_DRAWS[FAULT](&clipped, indices, scratch);
+    if ended.number != 0 {
+        return (ended, Walk::default());
+    }
+    let drawn = &indices[..ended.count as usize];
+    let walk = Walk::of(drawn.iter().map(|&index| &items[index as usize]));
+    (ended, walk)
 }
 
 /// Fault [`AT_PLACES`].

@@ -1,8 +1,10 @@
 //! The views that every run tries: small ones without gap, those at the bounds of the methods, budgets and refusals.
 
+use reference::methods::bounds;
 use reference::sampling::Sampling;
 use reference::some_state;
 
+use crate::inputs::at_draws;
 use crate::sample::fixed::{self, budgets, longer, slices};
 
 /// Every amount to two above the number of items is tried for every such number to this one, from so many generators.
@@ -27,6 +29,19 @@ const AT_BOUNDS: [(u64, u64); 14] = [
     (100, 4_294_967_295),
 ];
 
+/// Views that are given every budget, and of which a draw has words on both sides of its tests: by Floyd's method, in place, by rejection.
+const UNDER_BUDGETS: [(u64, u64); 9] = [
+    (5, 0),
+    (1, 1),
+    (6, 6),
+    (1000, 5),
+    (500_001, 40),
+    (12, 12),
+    (350, 12),
+    (200, 163),
+    (44_010, 163),
+];
+
 /// Amounts above the number of items, by how much.
 const ABOVE: [u64; 4] = [1, 2, 1000, 1 << 32];
 
@@ -38,6 +53,16 @@ fn exact(number: u64, length: u64, amount: u64) -> Sampling {
 
 /// Hands over all of them.
 pub fn calls(mut visit: impl FnMut(Sampling)) {
+    for (length, amount) in UNDER_BUDGETS {
+        budgets(&exact(1, length, amount), &mut visit);
+        at_draws(&bounds(length as u32, amount as u32), |from, budget| {
+            visit(Sampling {
+                from,
+                budget,
+                ..longer(&exact(0, length, amount), 2)
+            });
+        });
+    }
     for (number, longer_by) in (0..GENERATORS).zip([0, 1, 5].into_iter().cycle()) {
         for length in 0..=SMALL {
             for amount in (0..=length + 2).chain([u64::MAX]) {
@@ -53,7 +78,6 @@ pub fn calls(mut visit: impl FnMut(Sampling)) {
             at_bound(length, length + by, &mut visit);
         }
     }
-    budgets(&exact(1, 44_010, 163), &mut visit);
     for (length, amount) in [(20, 11), (9, 30), (40, 12), (13, u64::MAX), (44_010, 163)] {
         refusals(&exact(length, length, amount), &mut visit);
     }

@@ -15,6 +15,7 @@ use std::sync::OnceLock;
 use reference::sampling::{Ended, Sampling};
 use reference::viewing::{self, View, Walk, view};
 
+use crate::draw_faults;
 use crate::inputs::Source;
 use crate::kind::Kind;
 use crate::sample::Sample;
@@ -62,8 +63,15 @@ impl Answer {
 
 impl Kind for IndexedSamples {
     const NAME: &'static str = "IndexedSamples, the wrapper's";
-    const FAULTS: &'static [&'static str] =
-        &[faults::STAYS, faults::NOT_CLIPPED, faults::AT_PLACES];
+    const FAULTS: &'static [&'static str] = &[
+        faults::STAYS,
+        faults::NOT_CLIPPED,
+        faults::AT_PLACES,
+        draw_faults::SECOND_WORD,
+        draw_faults::FIRST_LOW_KEPT,
+        draw_faults::STOPS_AT_LARGEST,
+        draw_faults::THIRD_UNTESTED,
+    ];
     const PARTS: usize = 2;
     type Input = Sampling;
     type Answer = Answer;
@@ -74,7 +82,7 @@ impl Kind for IndexedSamples {
                 Some(faults::STAYS) => faults::stays,
                 Some(faults::NOT_CLIPPED) => faults::not_clipped,
                 Some(faults::AT_PLACES) => faults::at_places,
-                _ => port::view,
+                _ => draw_faults::planted(plant, faults::OF_DRAWS).unwrap_or(port::view),
             },
         }
     }

@@ -4,14 +4,14 @@ use reference::sampling::Sampling;
 
 use crate::inputs::Source;
 use crate::sample::fixed::scratch_needed;
-use crate::sample::random::{around, budget};
+use crate::sample::random::{around, budget, start};
 
 /// A random view.
 pub fn call(source: &mut Source) -> Sampling {
     let (length, amount) = sizes(source);
     let drawn = amount.min(length);
     Sampling {
-        from: source.state_or_zero(),
+        from: start(length, drawn, source),
         length,
         amount,
         budget: budget(source, drawn),

@@ -1,9 +1,12 @@
 //! What the functions of the header write besides what the safe calls hand on.
 
+use core::array;
+
 use super::{
     Choose, gapyndura_choose, gapyndura_choose_stable, gapyndura_next_u32,
-    gapyndura_partial_shuffle, gapyndura_sample_fill, gapyndura_shuffle, gapyndura_weights_new,
-    gapyndura_weights_pick, gapyndura_weights_update, gapyndura_weights_weight,
+    gapyndura_partial_shuffle, gapyndura_sample, gapyndura_sample_fill, gapyndura_shuffle,
+    gapyndura_weights_new, gapyndura_weights_pick, gapyndura_weights_update,
+    gapyndura_weights_weight,
 };
 
 /// A call with a state, and with the out-parameter that is written.
@@ -16,10 +19,10 @@ fn a_refused_shuffle_or_fill_has_read_and_placed_nothing() {
     let (at, len) = (items.as_mut_ptr(), items.len());
     let calls: [Call<'_>; 3] = [
         // SAFETY: the pointers are those of arrays that nothing else uses meanwhile.
-        &mut |state, out| unsafe { gapyndura_partial_shuffle(state, at, len, 2, out) },
-        &mut |state, out| unsafe { gapyndura_shuffle(state, at, len, out) },
+        &mut |state, out| unsafe { gapyndura_partial_shuffle(state, at, len, 2, 9, out) },
+        &mut |state, out| unsafe { gapyndura_shuffle(state, at, len, 9, out) },
         &mut |state, out| unsafe {
-            gapyndura_sample_fill(state, at, len, buf.as_mut_ptr(), buf.len(), out)
+            gapyndura_sample_fill(state, at, len, buf.as_mut_ptr(), buf.len(), 9, out)
         },
     ];
     for call in calls {
@@ -28,6 +31,70 @@ fn a_refused_shuffle_or_fill_has_read_and_placed_nothing() {
         assert_eq!((state, out), ([0; 4], [0; 2]));
     }
     assert_eq!((items, buf), ([5, 6, 7], [8, 9]));
+}
+
+/// The generator is as far as the budget, the slices are as the finished draws have left them, and the second number is 0.
+#[test]
+fn a_spent_shuffle_or_fill_has_read_its_budget_and_tells_no_place() {
+    let mut items: [u32; 20] = array::from_fn(|place| place as u32);
+    let mut buf = [8, 9];
+    let (at, len) = (items.as_mut_ptr(), items.len());
+    let calls: [Call<'_>; 3] = [
+        // SAFETY: as above.
+        &mut |state, out| unsafe { gapyndura_partial_shuffle(state, at, len, 19, 1, out) },
+        &mut |state, out| unsafe { gapyndura_shuffle(state, at, len, 1, out) },
+        &mut |state, out| unsafe {
+            gapyndura_sample_fill(state, at, len, buf.as_mut_ptr(), buf.len(), 1, out)
+        },
+    ];
+    for call in calls {
+        let (mut state, mut out) = (STATE, BEFORE);
+        assert_eq!(call(&mut state, &mut out), 13);
+        assert_eq!((state, out), (after(STATE, 1), [1, 0]));
+    }
+    // Two shuffles have exchanged what their first chunks serve, and nothing behind it.
+    assert!(items[12..].iter().copied().eq(12..20));
+    items.sort_unstable();
+    assert!(items.into_iter().eq(0..20));
+    assert!(buf.iter().all(|&item| item < 12));
+}
+
+/// The count is that of the entries of indices that were written. By rejection three of the first nine words are dropped.
+#[test]
+fn a_spent_sample_counts_what_it_has_written() {
+    for (length, amount, budget, count) in [(9, 5, 3, 3), (30, 20, 7, 0), (44_010, 163, 9, 6)] {
+        let (mut indices, mut scratch) = ([u32::MAX; 163], [u32::MAX; 31]);
+        let (mut state, mut out) = (STATE, BEFORE);
+        // SAFETY: as above.
+        let number = unsafe {
+            gapyndura_sample(
+                &mut state,
+                length,
+                amount,
+                budget,
+                indices.as_mut_ptr(),
+                indices.len(),
+                scratch.as_mut_ptr(),
+                scratch.len(),
+                &mut out,
+            )
+        };
+        assert_eq!((number, out), (13, [budget, count]));
+        assert_eq!(state, after(STATE, budget));
+        let written = indices.iter().take_while(|&&index| index != u32::MAX);
+        assert_eq!(written.count() as u64, count);
+        let arranged = scratch.iter().filter(|&&index| index != u32::MAX);
+        assert_eq!(arranged.count(), if count == 0 { 30 } else { 0 });
+    }
+}
+
+/// The state after so many words.
+fn after(state: [u64; 4], words: u64) -> [u64; 4] {
+    let mut state = state;
+    for _ in 0..words {
+        assert_eq!(gapyndura_next_u32(&mut state, &mut [0; 2]), 0);
+    }
+    state
 }
 
 /// A count, and a total that may have more than 32 bits.

@@ -3,6 +3,7 @@
 use reference::State;
 use reference::book::{Draw, Job};
 use reference::book_jobs::{Drawn, ENTRIES};
+use reference::methods::{Method, due};
 use reference::sampling::{SLICE_TOO_SHORT, Sampling};
 use reference::weighing::Held;
 
@@ -42,8 +43,8 @@ const WEIGHTS_LATE: &str = "weights-late";
 /// Each pick from the job's seed.
 const PICK_ANEW: &str = "picks-from-seed";
 
-/// A sample that heeds the budget though it is not by rejection.
-const ALL_HEED: &str = "all-samples-heed";
+/// A sample that heeds its budget only if it is by rejection.
+const REJECTION_HEEDS: &str = "rejection-alone-heeds";
 
 /// A budget that is just enough taken for too small.
 const EARLY: &str = "book-spent-early";
@@ -66,7 +67,7 @@ pub const NAMES: [&str; 18] = [
     UNCHECKED,
     WEIGHTS_LATE,
     PICK_ANEW,
-    ALL_HEED,
+    REJECTION_HEEDS,
     EARLY,
 ];
 
@@ -104,14 +105,21 @@ fn sampled(mut call: Sampling, fault: &str) -> Drawn {
     if fault == EARLY && call.budget > 0 {
         call.budget -= 1;
     }
+    if fault == REJECTION_HEEDS && !is_by_rejection(&call) {
+        call.budget = u64::MAX;
+    }
     let ended = call.end(&mut indices, &mut scratch);
     indices.truncate(ended.count as usize);
     match ended.number {
-        0 if fault == ALL_HEED && ended.words > call.budget => Err(13),
         13 if fault == SPENT_SAMPLE => Ok(indices),
         0 => Ok(indices),
         number => Err(number),
     }
+}
+
+/// Whether a sample is by rejection, if it is one at all. A job's numbers are of 32 bits.
+fn is_by_rejection(call: &Sampling) -> bool {
+    call.amount <= call.length && due(call.length as u32, call.amount as u32) == Method::Rejection
 }
 
 fn picked(from: State, picks: usize, budget: u64, weights: &[u32], fault: &str) -> Drawn {

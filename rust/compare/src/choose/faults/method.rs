@@ -9,6 +9,7 @@ use reference::coins::Coins;
 use reference::{Counting, State};
 
 use crate::choose::Chooser;
+use crate::draw_faults;
 
 /// An error in a choice.
 #[derive(Clone, Copy, PartialEq, Eq)]
@@ -20,6 +21,8 @@ pub enum Error {
     CoinsReset,
     /// A draw is made below the lower hint alone.
     NotConsumed,
+    /// A draw is made with the fault of bounded draws at this place.
+    Draw(usize),
     /// A bit of 1 is heads.
     HeadsExchanged,
     /// A word's coins are its bits from the bottom.
@@ -111,7 +114,11 @@ impl Method {
             Error::NotConsumed => 0,
             _ => group.start,
         };
-        let ix = rng.random_range(..(group.len() + consumed) as u32) as usize;
+        let r = (group.len() + consumed) as u32;
+        let ix = match self.error {
+            Error::Draw(fault) => draw_faults::value(rng, r, fault),
+            _ => rng.random_range(..r),
+        } as usize;
         (ix < group.len()).then_some(group.start + ix)
     }
 

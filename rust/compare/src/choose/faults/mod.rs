@@ -7,6 +7,7 @@ use reference::choosing::{Choose, Chosen, Lists, NO_UPPER};
 use reference::draws::BUDGET_EXHAUSTED;
 
 use super::{AnyChoice, Chooser, StableChoice};
+use crate::draw_faults;
 use method::{Error, Method};
 
 /// Coins that are left before a bounded draw are dropped at it.
@@ -58,8 +59,24 @@ pub fn choose(plant: Option<&str>) -> Option<Choose> {
         NOT_CONSUMED => {
             |from, lists, budget| Method::of::<Any>(Error::NotConsumed).end(from, lists, budget)
         }
-        _ => return either::<Any>(plant),
+        _ => {
+            let with_draw = draw_faults::planted(plant, OF_DRAWS);
+            return with_draw.or_else(|| either::<Any>(plant));
+        }
     })
+}
+
+/// The choices with each fault of the bounded draw.
+const OF_DRAWS: [Choose; draw_faults::NAMES.len()] = [
+    with_draw::<0>,
+    with_draw::<1>,
+    with_draw::<2>,
+    with_draw::<3>,
+];
+
+/// A choice with a fault of the bounded draw.
+fn with_draw<const FAULT: usize>(from: State, lists: Lists<'_>, budget: u64) -> Chosen {
+    Method::of::<AnyChoice>(Error::Draw(FAULT)).end(from, lists, budget)
 }
 
 /// The port's `choose_stable` with this fault in it, where the name is that of one.

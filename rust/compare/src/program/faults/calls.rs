@@ -1,32 +1,26 @@
 //! Faults in what a call does. Outputs, draws and parts have faults of their own; the others are those of the same calls at the C
 //! boundary.
 
-use rand::Rng;
-use rand::rngs::Xoshiro256PlusPlus;
 use reference::call::Calls;
 use reference::draw_line::next_u64;
-use reference::draws::{
-    Drawn, Draws, RAND, bounded, counted, one_too_low, rejecting, rejecting_at,
-};
+use reference::draws::{Draw, Drawn, Draws, RAND, bounded, one_too_low, rejecting, rejecting_at};
 use reference::line::Name;
-use reference::methods::{draw, due};
-use reference::sampling::{End, Ended, Sampling};
+use reference::sampling::{End, Sampling};
 use reference::shuffle_line::{head, tail};
 use reference::words::WORDS;
 
 use crate::choose::{Choose, ChooseStable};
+use crate::draw_faults::{self, faulty};
 use crate::fill::SampleFill;
 use crate::kind::Kind;
 use crate::port::PORT;
 use crate::sample::Sample;
+use crate::sample::faults::with_draws;
 use crate::seeding::{FromSeed, SeedFromU64};
 use crate::shuffle::{PartialShuffle, Shuffle};
 use crate::view::IndexedSamples;
 use crate::weights::{History, faults};
 use crate::word::{NextU32, OF_NEXT_STEP};
-
-/// The bounded draw with `>=` in place of `>` in the second word's test.
-const SECOND_WORD: &str = "second-word";
 
 /// The rejecting draw with a threshold that is one too high.
 const THRESHOLD: &str = "threshold";
@@ -40,26 +34,22 @@ const FIGURE: &str = "words";
 /// A part of a slice, lent at the place behind the one that is asked for.
 const PARTS: &str = "parts-off-by-one";
 
-/// The faults of draws: the draws with each of them, and samples that are drawn so.
-const DRAWS: [(&str, Draws, End); 4] = [
-    (SECOND_WORD, OF_SECOND_WORD, |call, indices, scratch| {
-        sampled(&OF_SECOND_WORD, call, indices, scratch)
-    }),
+/// The faults of draws that lines alone have: the draws with each of them, and samples that are drawn so.
+const DRAWS: [(&str, Draws, End); 3] = [
     (THRESHOLD, OF_THRESHOLD, |call, indices, scratch| {
-        sampled(&OF_THRESHOLD, call, indices, scratch)
+        with_draws(&OF_THRESHOLD, call, indices, scratch)
     }),
     (THRESHOLD_LOW, OF_THRESHOLD_LOW, |call, indices, scratch| {
-        sampled(&OF_THRESHOLD_LOW, call, indices, scratch)
+        with_draws(&OF_THRESHOLD_LOW, call, indices, scratch)
     }),
     (FIGURE, OF_FIGURE, |call, indices, scratch| {
-        sampled(&OF_FIGURE, call, indices, scratch)
+        with_draws(&OF_FIGURE, call, indices, scratch)
     }),
 ];
 
-const OF_SECOND_WORD: Draws = Draws {
-    bounded: second_word,
-    ..RAND
-};
+/// The bounded draws with each fault that every call can have which makes one.
+const BOUNDED: [Draw; draw_faults::NAMES.len()] =
+    [faulty::<0>, faulty::<1>, faulty::<2>, faulty::<3>];
 
 const OF_THRESHOLD: Draws = Draws {
     rejecting: |rng, r| rejecting_at(rng, r, WORDS % r as u64 + 1),
@@ -82,9 +72,9 @@ pub fn of(name: Name) -> Vec<&'static str> {
         Name::Seed => [SeedFromU64::FAULTS, FromSeed::FAULTS].concat(),
         Name::NextU64 => vec![OF_NEXT_STEP],
         Name::NextU32 => NextU32::FAULTS.to_vec(),
-        Name::RandomRange => vec![SECOND_WORD, FIGURE],
+        Name::RandomRange => [&draw_faults::NAMES[..], &[FIGURE]].concat(),
         Name::UniformInt => vec![THRESHOLD, THRESHOLD_LOW, FIGURE],
-        Name::Sample => [Sample::FAULTS, &[FIGURE, SECOND_WORD]].concat(),
+        Name::Sample => [Sample::FAULTS, &[FIGURE]].concat(),
         Name::PartialShuffle => PartialShuffle::FAULTS.to_vec(),
         Name::Shuffle => Shuffle::FAULTS.to_vec(),
         Name::Tail | Name::Head => vec![PARTS],
@@ -132,6 +122,9 @@ pub fn planted(fault: &str) -> Calls {
         calls.draws = draws;
         calls.sample = sample;
     }
+    if let Some(bounded) = draw_faults::planted(plant, BOUNDED) {
+        calls.draws.bounded = bounded;
+    }
     match fault {
         OF_NEXT_STEP => {
             calls.next_u64 = |from| {
@@ -148,33 +141,6 @@ pub fn planted(fault: &str) -> Calls {
     calls
 }
 
-/// How a sample ends that is drawn so.
-fn sampled(draws: &Draws, call: &Sampling, indices: &mut [u32], scratch: &mut [u32]) -> Ended {
-    let drawing = |rng: &mut _, length, amount| {
-        let method = due(length, amount);
-        draw(method, rng, length, amount, draws)
-    };
-    call.end_by(&drawing, indices, scratch)
-}
-
-/// Fault [`SECOND_WORD`].
-fn second_word(rng: &mut Xoshiro256PlusPlus, r: u32) -> Drawn {
-    counted(rng, |rng| {
-        let first = u64::from(rng.next_u32());
-        let product = first * u64::from(r);
-        if product % WORDS < WORDS - u64::from(r) {
-            return high(product);
-        }
-        let second = u64::from(rng.next_u32()) * u64::from(r);
-        high(product + second / WORDS)
-    })
-}
-
-/// The upper half of a product.
-fn high(product: u64) -> u32 {
-    (product >> 32) as u32
-}
-
 /// Fault [`FIGURE`].
 fn one_less(drawn: Drawn) -> Drawn {
     Drawn {
@@ -189,13 +155,15 @@ mod tests {
     use reference::draw_line::Bounded;
     use reference::words::giving;
 
-    use super::{DRAWS, planted};
+    use super::{FIGURE, THRESHOLD, THRESHOLD_LOW, planted};
+    use crate::draw_faults::SECOND_WORD;
 
     /// Whether each fault of a draw shows in a draw from these words.
     fn shows(make: fn(Bounded) -> Call, r: u32, a: u32, b: u32) -> [bool; 4] {
         let from = giving(a, b, 1);
         let call = make(Bounded { from, r, budget: 2 });
-        DRAWS.map(|(fault, ..)| call.answer_by(&planted(fault)) != call.answer())
+        let faults = [SECOND_WORD, THRESHOLD, THRESHOLD_LOW, FIGURE];
+        faults.map(|fault| call.answer_by(&planted(fault)) != call.answer())
     }
 
     #[test]
