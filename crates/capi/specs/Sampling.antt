@@ -1,10 +1,10 @@
--- What `gapyndura_sample` writes, as a sample leaves it.
+-- What `gapyndura_sample` and `gapyndura_sample_stratified` write, as a sample leaves it.
 use mathlib.Core.List.{List, [], _∷_}
 use Prim.Native.Nat.{ℕ}
 use Rattle.index.specs.Sample.{Sampling}
 use Rattle.boundary.specs.State.{words, valueOr0}
 
--- what it returns, and what the caller's memory then holds
+-- what the call returns, and what the caller's memory then holds
 pub record Sampled : Type 0 where
   pub number : ℕ
   pub state : List ℕ

@@ -6,10 +6,15 @@ use mathlib.Core.List.{List, [], _∷_}
 use Prim.Native.Nat.{ℕ, zero, suc, _*_, _<_}
 use native.Mathlib.Nat.{mul-one, mul-pos}
 use native.Mathlib.Omega.{arith}
-use lib.ListN.{replicate}
+use lib.ListN.{length, replicate}
 use Rattle.counting.specs.Count.{oneIf, sum, countLists, product}
 use Rattle.counting.specs.Lists.{Within}
 use Rattle.counting.proofs.Sums.{sum-cong, sum-const}
+
+-- draws within bounds are as many as these
+pub length-within : (ds bs : List ℕ) → Within ds bs → length ds ≡ length bs
+length-within [] [] w = refl
+length-within (d ∷ ds) (b ∷ bs) w = ap suc (length-within ds bs (w .1))
 
 -- a list of draws, the first of which is taken off
 pub lists-cons : (p : List ℕ → Bool) (b : ℕ) (bs : List ℕ) → countLists p (b ∷ bs) ≡ sum (λ d. countLists (λ ds. p (d ∷ ds)) bs) b

@@ -11,6 +11,7 @@ use lib.ListN.{length, take, drop, getD, set, length-set, length-append, length-
 use lib.Seq.{take-at, drop-at, drop-drop, set-split, take-set-lt, drop-set-lt}
 use borrow.Author.Tests.{eq-eqb, ne-eqb}
 use Rattle.xoshiro256plusplus.specs.declared.Xoshiro256PlusPlus.{Xoshiro256PlusPlus}
+use Rattle.uniform_int.specs.Reads.{Positive}
 use Rattle.uniform_int.specs.Rejecting.{shown}
 use Rattle.uniform_int.specs.Within.{boundedWithin}
 use Rattle.uniform_int.specs.Draws.{draws}
@@ -113,6 +114,17 @@ placed t j k front l₀ l l′ size held put =
     put
     ∙ ap₂ (λ (a b : List ℕ). replaced t j a ++ (t ∷ b)) first rest
     ∙ sym (append-assoc (replaced t j front) (t ∷ []) (drop (k + 1) l₀))
+
+-- ---- the bounds
+
+pub rising-positive : (j m : ℕ) → Positive (rising j m)
+unfolding rising
+rising-positive j zero = tt
+rising-positive j (suc m) = (omega arith, rising-positive (suc j) m)
+
+pub floyd-positive : (n amount : ℕ) → Positive (floydBounds n amount)
+unfolding floydBounds
+floyd-positive n amount = rising-positive (n - amount) amount
 
 -- ---- the loop
 

@@ -1,14 +1,17 @@
 -- A sample by rejection, word by word: the accepted words are its draws.
 -- Assumes nothing.
 use mathlib.Core.Path.{_≡_, refl}
-use mathlib.Core.Bool.{Bool, true, false, false≢true}
+use mathlib.Core.Bool.{Bool, true, false}
 use mathlib.Core.List.{List, [], _∷_, _++_}
 use mathlib.Core.Option.{Option, none, some}
-use Prim.Native.Nat.{ℕ, zero, suc, _%_, _^_}
-use Rattle.counting.specs.Lists.{member}
+use Prim.Native.Nat.{ℕ, zero, suc, _%_, _^_, _<_}
+use lib.Pow.{pow-pos}
+use Rattle.counting.specs.Lists.{member, Below}
 use Rattle.xoshiro256plusplus.specs.Generator.{word, advance}
 use Rattle.xoshiro256plusplus.specs.declared.Xoshiro256PlusPlus.{Xoshiro256PlusPlus}
+use Rattle.xoshiro256plusplus.proofs.Laws.{word-lt}
 use Rattle.uniform_int.specs.Rejecting.{accepts, scaled}
+use Rattle.uniform_int.proofs.Scaling.{upper-lt}
 use Rattle.index_methods.specs.Rejection.{Found, rejectFrom, rejectionOf, foundFrom, foundOf, acceptedOf}
 
 -- the sample that the found indices are, if they are all
@@ -51,3 +54,19 @@ pub words-lack : (n amount budget : ℕ) (g : Xoshiro256PlusPlus) → foundOf n 
     → rejectionOf amount (acceptedOf n budget g) ≡ none
 unfolding rejectionOf foundOf
 words-lack n amount budget g e = rw e at (accepted-draws n amount budget [] g 0)
+
+-- ---- the values of words
+
+pub value-below : (r : ℕ) (g : Xoshiro256PlusPlus) → 0 < r → scaled (2 ^ 32) r (word g) < r
+unfolding scaled
+value-below r g h = upper-lt (2 ^ 32) r (word g) (pow-pos 32) h (word-lt g)
+
+-- accepted words have values below r
+pub accepted-below : (r n : ℕ) (g : Xoshiro256PlusPlus) → 0 < r → Below r (acceptedOf r n g)
+unfolding acceptedOf
+accepted-below r zero g h = tt
+accepted-below r (suc n) g h = go (accepts (2 ^ 32) r (2 ^ 32 % r) (word g)) (accepted-below r n (advance g) h)
+  where
+    go : (b : Bool) → Below r (acceptedOf r n (advance g)) → Below r (elim b [ true ↦ scaled (2 ^ 32) r (word g) ∷ acceptedOf r n (advance g) | false ↦ acceptedOf r n (advance g) ])
+    go true ih = (value-below r g h, ih)
+    go false ih = ih

@@ -11,7 +11,7 @@ use native.Mathlib.Omega.{arith}
 use lib.Dec.{eqb, leb, ltb}
 use lib.ListN.{length}
 use borrow.Author.Tests.{eqb-false, ltb-false, ltb-true, leb-true}
-use Rattle.lines.specs.Sizes.{Entries, entries, at, exactly, drawSizes, madeHints, followingHints, choiceSizes, tableSizes}
+use Rattle.lines.specs.Sizes.{Entries, entries, at, exactly, drawSizes, madeHints, followingHints, choiceSizes, tableSizes, stratifiedSizes}
 use Rattle.xoshiro256plusplus.specs.declared.Xoshiro256PlusPlus.{Xoshiro256PlusPlus}
 use Rattle.lines.specs.Means.{choiceMeans, pickMeans, weightMeans}
 use Rattle.lines.specs.Meaning.{Call, callAt}
@@ -103,7 +103,11 @@ table-fits k a ns y e =
     let x = q .1 in
     (sym (ap (λ (z : Entries). z .a) x), omega (arith, ap (λ (z : Entries). z .c) x, ap (λ (z : Entries). z .d) x, leb-true (k + at ns (k - 2) + at ns (k - 1)) (length ns) (q .0)))
 
--- ---- choices and tables, by their places
+pub strata-fit : (ns : List ℕ) (y : Entries) → stratifiedSizes ns ≡ some y → 4 + at ns 3 ≤ length ns
+unfolding stratifiedSizes
+strata-fit ns y e = leb-true (4 + at ns 3) (length ns) (kept (leb (4 + at ns 3) (length ns)) (entries (at ns 1) (at ns 2) 0 0) y e .0)
+
+-- ---- choices, tables and stratified samples, by their places
 
 module _ (k : ℕ) (ns : List ℕ) (y : Entries) (e : callAt k .sizes ns ≡ some y) where
   pub choice-at : 12 ≤ k → k < 14 → (1 < y .a) × (1 < at ns 2 → 4 + y .c + y .d ≤ length ns)
@@ -114,25 +118,28 @@ module _ (k : ℕ) (ns : List ℕ) (y : Entries) (e : callAt k .sizes ns ≡ som
       go (inr q) = choice-fits ns y (sym (rows.sizes-13 k (omega arith) ns) ∙ e)
 
   -- a row with sizes is one of the table
-  pub in-table : k < 16
+  pub in-table : k < 17
   unfolding is-some
-  in-table = go (ltb k 16) refl
+  in-table = go (ltb k 17) refl
     where
-      go : (t : Bool) → ltb k 16 ≡ t → k < 16
-      go true f = ltb-true k 16 f
-      go false f = absurd (false≢true (ap is-some (sym (ap (λ (c : Call). c .sizes ns) (rows.past-table k (ltb-false k 16 f))) ∙ e)))
+      go : (t : Bool) → ltb k 17 ≡ t → k < 17
+      go true f = ltb-true k 17 f
+      go false f = absurd (false≢true (ap is-some (sym (ap (λ (c : Call). c .sizes ns) (rows.past-table k (ltb-false k 17 f))) ∙ e)))
 
-  pub table-at : 14 ≤ k → (19 - k ≡ 4 → 1 < y .a) × (4 ≤ 19 - k) × (19 - k < 6) × (19 - k + at ns (19 - k - 2) + y .c + y .d ≤ length ns)
-  table-at l = go (eq-or-lt-of-le l)
+  pub table-at : 14 ≤ k → k < 16 → (19 - k ≡ 4 → 1 < y .a) × (4 ≤ 19 - k) × (19 - k < 6) × (19 - k + at ns (19 - k - 2) + y .c + y .d ≤ length ns)
+  table-at l most = go (eq-or-lt-of-le l)
     where
       go : (14 ≡ k) ⊎ (14 < k) → (19 - k ≡ 4 → 1 < y .a) × (4 ≤ 19 - k) × (19 - k < 6) × (19 - k + at ns (19 - k - 2) + y .c + y .d ≤ length ns)
       go (inl q) =
           let five : 19 - k ≡ 5 = omega arith in
           (λ four. absurd (omega arith), omega arith, omega arith, rw five (table-fits 5 (at ns 0) ns y (sym (rows.sizes-14 k (sym q) ns) ∙ e) .1))
       go (inr q) =
-          let four : 19 - k ≡ 4 = omega (arith, in-table) in
-          let fits = table-fits 4 2 ns y (sym (rows.sizes-15 k (omega (arith, in-table)) ns) ∙ e) in
-          (λ _. omega (arith, fits .0), omega (arith, in-table), omega (arith, in-table), rw four (fits .1))
+          let four : 19 - k ≡ 4 = omega (arith, most) in
+          let fits = table-fits 4 2 ns y (sym (rows.sizes-15 k (omega (arith, most)) ns) ∙ e) in
+          (λ _. omega (arith, fits .0), omega (arith, most), omega (arith, most), rw four (fits .1))
+
+  pub strata-at : 16 ≤ k → 4 + at ns 3 ≤ length ns
+  strata-at l = strata-fit ns y (sym (rows.sizes-16 k (omega (arith, in-table)) ns) ∙ e)
 
 -- ---- what they mean
 

@@ -22,14 +22,14 @@ use Rattle.lines.proofs.Rows.{past-table}
 
 -- the names of the calls, as the code has them
 abbrev pub names : List ℕ
-names = 115 ∷ 101 ∷ 101 ∷ 100 ∷ 32 ∷ 110 ∷ 101 ∷ 120 ∷ 116 ∷ 95 ∷ 117 ∷ 54 ∷ 52 ∷ 32 ∷ 110 ∷ 101 ∷ 120 ∷ 116 ∷ 95 ∷ 117 ∷ 51 ∷ 50 ∷ 32 ∷ 114 ∷ 97 ∷ 110 ∷ 100 ∷ 111 ∷ 109 ∷ 95 ∷ 114 ∷ 97 ∷ 110 ∷ 103 ∷ 101 ∷ 32 ∷ 117 ∷ 110 ∷ 105 ∷ 102 ∷ 111 ∷ 114 ∷ 109 ∷ 95 ∷ 105 ∷ 110 ∷ 116 ∷ 32 ∷ 115 ∷ 97 ∷ 109 ∷ 112 ∷ 108 ∷ 101 ∷ 32 ∷ 112 ∷ 97 ∷ 114 ∷ 116 ∷ 105 ∷ 97 ∷ 108 ∷ 95 ∷ 115 ∷ 104 ∷ 117 ∷ 102 ∷ 102 ∷ 108 ∷ 101 ∷ 32 ∷ 115 ∷ 104 ∷ 117 ∷ 102 ∷ 102 ∷ 108 ∷ 101 ∷ 32 ∷ 116 ∷ 97 ∷ 105 ∷ 108 ∷ 32 ∷ 104 ∷ 101 ∷ 97 ∷ 100 ∷ 32 ∷ 115 ∷ 97 ∷ 109 ∷ 112 ∷ 108 ∷ 101 ∷ 95 ∷ 102 ∷ 105 ∷ 108 ∷ 108 ∷ 32 ∷ 105 ∷ 110 ∷ 100 ∷ 101 ∷ 120 ∷ 101 ∷ 100 ∷ 95 ∷ 115 ∷ 97 ∷ 109 ∷ 112 ∷ 108 ∷ 101 ∷ 115 ∷ 32 ∷ 99 ∷ 104 ∷ 111 ∷ 111 ∷ 115 ∷ 101 ∷ 32 ∷ 99 ∷ 104 ∷ 111 ∷ 111 ∷ 115 ∷ 101 ∷ 95 ∷ 115 ∷ 116 ∷ 97 ∷ 98 ∷ 108 ∷ 101 ∷ 32 ∷ 112 ∷ 105 ∷ 99 ∷ 107 ∷ 32 ∷ 119 ∷ 101 ∷ 105 ∷ 103 ∷ 104 ∷ 116 ∷ []
+names = 115 ∷ 101 ∷ 101 ∷ 100 ∷ 32 ∷ 110 ∷ 101 ∷ 120 ∷ 116 ∷ 95 ∷ 117 ∷ 54 ∷ 52 ∷ 32 ∷ 110 ∷ 101 ∷ 120 ∷ 116 ∷ 95 ∷ 117 ∷ 51 ∷ 50 ∷ 32 ∷ 114 ∷ 97 ∷ 110 ∷ 100 ∷ 111 ∷ 109 ∷ 95 ∷ 114 ∷ 97 ∷ 110 ∷ 103 ∷ 101 ∷ 32 ∷ 117 ∷ 110 ∷ 105 ∷ 102 ∷ 111 ∷ 114 ∷ 109 ∷ 95 ∷ 105 ∷ 110 ∷ 116 ∷ 32 ∷ 115 ∷ 97 ∷ 109 ∷ 112 ∷ 108 ∷ 101 ∷ 32 ∷ 112 ∷ 97 ∷ 114 ∷ 116 ∷ 105 ∷ 97 ∷ 108 ∷ 95 ∷ 115 ∷ 104 ∷ 117 ∷ 102 ∷ 102 ∷ 108 ∷ 101 ∷ 32 ∷ 115 ∷ 104 ∷ 117 ∷ 102 ∷ 102 ∷ 108 ∷ 101 ∷ 32 ∷ 116 ∷ 97 ∷ 105 ∷ 108 ∷ 32 ∷ 104 ∷ 101 ∷ 97 ∷ 100 ∷ 32 ∷ 115 ∷ 97 ∷ 109 ∷ 112 ∷ 108 ∷ 101 ∷ 95 ∷ 102 ∷ 105 ∷ 108 ∷ 108 ∷ 32 ∷ 105 ∷ 110 ∷ 100 ∷ 101 ∷ 120 ∷ 101 ∷ 100 ∷ 95 ∷ 115 ∷ 97 ∷ 109 ∷ 112 ∷ 108 ∷ 101 ∷ 115 ∷ 32 ∷ 99 ∷ 104 ∷ 111 ∷ 111 ∷ 115 ∷ 101 ∷ 32 ∷ 99 ∷ 104 ∷ 111 ∷ 111 ∷ 115 ∷ 101 ∷ 95 ∷ 115 ∷ 116 ∷ 97 ∷ 98 ∷ 108 ∷ 101 ∷ 32 ∷ 112 ∷ 105 ∷ 99 ∷ 107 ∷ 32 ∷ 119 ∷ 101 ∷ 105 ∷ 103 ∷ 104 ∷ 116 ∷ 32 ∷ 115 ∷ 97 ∷ 109 ∷ 112 ∷ 108 ∷ 101 ∷ 95 ∷ 115 ∷ 116 ∷ 114 ∷ 97 ∷ 116 ∷ 105 ∷ 102 ∷ 105 ∷ 101 ∷ 100 ∷ []
 
 named : map (λ (c : Call). c .name) calls ≡ cut 32 names
 unfolding calls ascii bytesFrom cut inFront
 named = refl
 
 -- a request past the table means nothing
-nothing-asked : (q : Request) (room : Entries) (slice : List ℕ) → q .call ≡ 16 → asked room q slice ≡ none
+nothing-asked : (q : Request) (room : Entries) (slice : List ℕ) → q .call ≡ 17 → asked room q slice ≡ none
 unfolding asked made
 nothing-asked q room slice e = rw (past-table (q .call) (omega arith))
 
@@ -74,7 +74,7 @@ module _ (room : Entries) (n : ℕ) (line : List ℕ) (end : ℕ) (first : Field
 -- ---- what a request says
 
 module _ (q : Request) (slice : List ℕ) (n : ℕ) (line : List ℕ) where
-  pub asks-nothing : (q .call ≡ 16) × (q .count ≡ 0) → ((room : Entries) → meaning room n line ≡ none) → Asks q slice n line
+  pub asks-nothing : (q .call ≡ 17) × (q .count ≡ 0) → ((room : Entries) → meaning room n line ≡ none) → Asks q slice n line
   asks-nothing e no-meaning = record { says = λ room. nothing-asked q room slice (e .0) ∙ sym (no-meaning room); lies = omega (arith, e .1) }
 
   pub asks : q .count ≤ length slice → ((room : Entries) → meaning room n line ≡ made room (callAt (q .call) .sizes (take (q .count) slice)) (callAt (q .call) .means (q .rng) (take (q .count) slice))) → Asks q slice n line

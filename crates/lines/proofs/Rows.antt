@@ -10,13 +10,13 @@ use native.Mathlib.Nat.{eq-or-lt-of-le}
 use native.Mathlib.Omega.{arith}
 use lib.ListN.{List·getD-eq-default}
 use Rattle.xoshiro256plusplus.specs.declared.Xoshiro256PlusPlus.{Xoshiro256PlusPlus}
-use Rattle.lines.specs.Means.{seedMeans, outputMeans, wordMeans, boundedMeans, rejectingMeans, sampleMeans, partialMeans, shuffleMeans, tailMeans, headMeans, fillMeans, viewMeans, choiceMeans, pickMeans, weightMeans}
-use Rattle.lines.specs.Sizes.{Entries, entries, at, exactly, drawSizes, choiceSizes, tableSizes}
+use Rattle.lines.specs.Means.{seedMeans, outputMeans, wordMeans, boundedMeans, rejectingMeans, sampleMeans, partialMeans, shuffleMeans, tailMeans, headMeans, fillMeans, viewMeans, choiceMeans, pickMeans, weightMeans, stratifiedMeans}
+use Rattle.lines.specs.Sizes.{Entries, entries, at, exactly, drawSizes, choiceSizes, tableSizes, stratifiedSizes}
 use Rattle.lines.specs.Told.{Told}
 use Rattle.lines.specs.Meaning.{Call, calls, callAt, no-call}
 
 -- past the table there is no call
-pub past-table : (k : ℕ) → 16 ≤ k → callAt k ≡ no-call
+pub past-table : (k : ℕ) → 17 ≤ k → callAt k ≡ no-call
 unfolding callAt calls
 past-table k h = List·getD-eq-default calls no-call {n = k} h
 
@@ -85,6 +85,10 @@ module _ (k : ℕ) where
   unfolding callAt calls
   sizes-15 e ns = ap (λ (j : ℕ). callAt j .sizes ns) e
 
+  pub sizes-16 : k ≡ 16 → (ns : List ℕ) → callAt k .sizes ns ≡ stratifiedSizes ns
+  unfolding callAt calls
+  sizes-16 e ns = ap (λ (j : ℕ). callAt j .sizes ns) e
+
   pub means-0 : k ≡ 0 → (g : Xoshiro256PlusPlus) (ns : List ℕ) (e : Entries) → callAt k .means g ns e ≡ seedMeans g ns e
   unfolding callAt calls
   means-0 h g ns e = ap (λ (j : ℕ). callAt j .means g ns e) h
@@ -149,6 +153,10 @@ module _ (k : ℕ) where
   unfolding callAt calls
   means-15 h g ns e = ap (λ (j : ℕ). callAt j .means g ns e) h
 
+  pub means-16 : k ≡ 16 → (g : Xoshiro256PlusPlus) (ns : List ℕ) (e : Entries) → callAt k .means g ns e ≡ stratifiedMeans g ns e
+  unfolding callAt calls
+  means-16 h g ns e = ap (λ (j : ℕ). callAt j .means g ns e) h
+
 -- ---- rows that ask for the same
 
 module _ (k : ℕ) where
@@ -182,5 +190,5 @@ module _ (k : ℕ) where
         | inr m ↦ sizes-13 k (omega arith) ns
       ]
 
-  pub sizes-past : 16 ≤ k → (ns : List ℕ) → callAt k .sizes ns ≡ none
+  pub sizes-past : 17 ≤ k → (ns : List ℕ) → callAt k .sizes ns ≡ none
   sizes-past h ns = rw (past-table k h)

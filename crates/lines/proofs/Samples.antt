@@ -1,13 +1,13 @@
 -- What samples and reservoirs tell.
 -- Assumes nothing.
-use mathlib.Core.Path.{_≡_, refl, sym, ap, _∙_}
+use mathlib.Core.Path.{_≡_, refl, sym, ap, _∙_, subst}
 use mathlib.Core.Bool.{true}
 use mathlib.Core.List.{List, [], _∷_}
 use mathlib.Core.Option.{some}
-use Prim.Native.Nat.{ℕ, zero, suc, _≤_, min}
+use Prim.Native.Nat.{ℕ, zero, suc, _+_, _-_, _≤_, min}
 use native.Mathlib.Nat.{min-le-left, min-le-right}
 use native.Mathlib.Omega.{arith}
-use lib.ListN.{length, take, length-take}
+use lib.ListN.{length, take, drop, length-take, length-drop}
 use lib.Seq.{take-all, length-take-le}
 use Rattle.refusal.specs.Answer.{Answer, answerOf}
 use Rattle.refusal.proofs.Outcomes.{number-of, value-of}
@@ -16,11 +16,12 @@ use Rattle.index.specs.Sample as Sample
 use Rattle.index.specs.declared.IndexSample.{IndexSample}
 use Rattle.iterator.specs.Fill as Fill
 use Rattle.iterator.specs.declared.Filled.{Filled}
+use Rattle.stratified.specs.Stratified.{sampleStratifiedOf}
 use Rattle.view_sample.specs.Viewed.{viewSampleOf, drawnOf}
 use Rattle.view_run.specs.Run.{shownOf, ItemsShown, ViewRuns}
 use Rattle.view_run.proofs.ViewRuns.{view-runs}
 use Rattle.view_run.specs.declared.ItemsSample.{ItemsSample}
-use Rattle.lines.specs.Means.{sampleTold, sampleMeans, viewTold, viewMeans, fillTold, fillMeans}
+use Rattle.lines.specs.Means.{sampleTold, sampleMeans, stratifiedMeans, viewTold, viewMeans, fillTold, fillMeans}
 use Rattle.lines.specs.Sizes.{entries, at}
 use Rattle.lines.specs.Slices.{progression, blank, counted, spaced, digestFrom}
 use Rattle.lines.specs.Told.{Told, Tells}
@@ -59,17 +60,36 @@ module _ (number end d₂ : ℕ) where
       let same : answerOf (s .sampled .outcome) 0 .number ≡ v .answer .number = sym (number-of (s .sampled .outcome) (s .sampled .count)) ∙ ap (λ (a : Answer). a .number) (ran .answer) in
       rw (num, same, e, f, shown, ran .words, ran .rng, ran .scratch)
 
--- a call of a line: its numbers, and slices as they are before it
-pub sample-told : (g : Xoshiro256PlusPlus) (ns last work : List ℕ) (a b n amount budget number end d₁ d₂ : ℕ) (s : IndexSample) (r : Reply)
-    → n ≡ at ns 0 → amount ≡ at ns 1 → budget ≡ at ns 2
-    → Sample.ended s last work ≡ Sample.sampleOf n amount budget g (progression 4294967295 0 a) (progression 4294967295 0 b)
-    → number ≡ answerOf (s .outcome) 0 .number → end ≡ min (s .count) (length last) → d₁ ≡ digestFrom 0 last → d₂ ≡ digestFrom d₁ work
+-- the reply of a sample
+pub reply-told : (s : IndexSample) (last work : List ℕ) (number end d₁ d₂ : ℕ) (r : Reply) → number ≡ answerOf (s .outcome) 0 .number
+    → end ≡ min (s .count) (length last) → d₁ ≡ digestFrom 0 last → d₂ ≡ digestFrom d₁ work
     → r ≡ record { «is_call» = true; number = number; words = s .words; rng = s .rng; digest = d₂; start = 0; end = end }
-    → (c d : ℕ) → Tells r last (sampleMeans g ns (entries a b c d))
-unfolding sampleMeans blank
-sample-told g ns last work a b n amount budget number end d₁ d₂ s r e₁ e₂ e₃ call num clip f₁ f₂ is c d =
-    tell number (s .words) d₂ end (s .rng) last _ r is (clipped-lies (s .count) end last clip)
-    (told-sample number end d₂ s last work d₁ num clip f₁ f₂ ∙ ap sampleTold (rw (← e₁, ← e₂, ← e₃) call))
+    → Tells r last (some (sampleTold (Sample.ended s last work)))
+reply-told s last work number end d₁ d₂ r num clip f₁ f₂ is =
+    tell number (s .words) d₂ end (s .rng) last _ r is (clipped-lies (s .count) end last clip) (told-sample number end d₂ s last work d₁ num clip f₁ f₂)
+
+-- a call of a line: its numbers, and slices as they are before it
+module _ (g : Xoshiro256PlusPlus) (ns indices scratch last work : List ℕ) (a b : ℕ) (s : IndexSample) (r : Reply) (told : Tells r last (some (sampleTold (Sample.ended s last work))))
+    (blank-indices : indices ≡ progression 4294967295 0 a) (blank-scratch : scratch ≡ progression 4294967295 0 b) where
+  pub sample-told : (n amount budget : ℕ) → n ≡ at ns 0 → amount ≡ at ns 1 → budget ≡ at ns 2
+      → Sample.ended s last work ≡ Sample.sampleOf n amount budget g indices scratch → (c d : ℕ) → Tells r last (sampleMeans g ns (entries a b c d))
+  unfolding sampleMeans blank
+  sample-told n amount budget e₁ e₂ e₃ call c d =
+      subst (λ (z : Sample.Sampling). Tells r last (some (sampleTold z))) (rw (← e₁, ← e₂, ← e₃, ← blank-indices, ← blank-scratch) call) told
+
+  pub stratified-told : (ls ks : List ℕ) (budget : ℕ) → ls ≡ take (at ns 3) (drop 4 ns) → ks ≡ drop (4 + at ns 3) ns → budget ≡ at ns 0
+      → Sample.ended s last work ≡ sampleStratifiedOf ls ks budget g indices scratch → (c d : ℕ) → Tells r last (stratifiedMeans g ns (entries a b c d))
+  unfolding stratifiedMeans blank
+  stratified-told ls ks budget e₁ e₂ e₃ call c d =
+      subst (λ (z : Sample.Sampling). Tells r last (some (sampleTold z))) (rw (← e₁, ← e₂, ← e₃, ← blank-indices, ← blank-scratch) call) told
+
+-- the two lists of parts, as they are lent: between two places of the line, and from the second on
+pub between : (ns : List ℕ) (p : ℕ) → p ≡ at ns 3 → take (4 + p - 4) (drop 4 ns) ≡ take (at ns 3) (drop 4 ns)
+between ns p e = let z : 4 + p - 4 ≡ at ns 3 = omega (arith, e) in ap (λ (k : ℕ). take k (drop 4 ns)) z
+
+pub from-there : (ns : List ℕ) (p : ℕ) → p ≡ at ns 3 → take (length ns - (4 + p)) (drop (4 + p) ns) ≡ drop (4 + at ns 3) ns
+from-there ns p e =
+    take-all (length ns - (4 + p)) (drop (4 + p) ns) (omega (arith, length-drop (4 + p) ns)) ∙ ap (λ (k : ℕ). drop (4 + k) ns) e
 
 pub fill-told : (g : Xoshiro256PlusPlus) (ns last : List ℕ) (a b budget number end d₁ : ℕ) (s : Filled) (r : Reply) → budget ≡ at ns 2
     → Fill.ended s last ≡ Fill.sampleFillOf budget g (progression 0 1 b) (progression 4294967295 0 a)

@@ -9,7 +9,7 @@ use native.Mathlib.Omega.{arith}
 use lib.Dec.{eqb}
 use lib.ListN.{length}
 use borrow.Author.Tests.{eq-eqb, ne-eqb, lt-ltb, le-ltb, le-leb, lt-leb}
-use Rattle.lines.specs.Sizes.{Entries, entries, sized, at, exactly, drawSizes, madeHints, followingHints, choiceSizes, tableSizes}
+use Rattle.lines.specs.Sizes.{Entries, entries, sized, at, exactly, drawSizes, madeHints, followingHints, choiceSizes, tableSizes, stratifiedSizes}
 use Rattle.lines.specs.declared.sizes.Sizes.{Sizes}
 
 pub exact : (k : ℕ) (ns : List ℕ) (a b c d : ℕ) → sized (record { «is_good» = eqb (length ns) k; a = a; b = b; c = c; d = d }) ≡ exactly k ns (entries a b c d)
@@ -54,6 +54,17 @@ module _ (ns : List ℕ) (n k : ℕ) (e : n ≡ at ns 0) (f : k ≡ at ns 2) whe
   following l d q h h₂ less m s z =
       let left : d ≡ length ns - (4 + at ns 3) = omega (arith, m, q) in
       z ∙ rw (eq-eqb (length ns) (length ns) refl, le-ltb (at ns 2) 2 (omega (arith, f)), le-ltb 2 (at ns 2) (omega (arith, f)), le-leb (4 + at ns 3) (length ns) (omega (arith, q)), left, e, q)
+
+-- ---- a stratified sample
+
+module _ (ns : List ℕ) (p : ℕ) (e : p ≡ at ns 3) where
+  pub few-lengths : (s : Option Entries) → length ns < 4 + p → s ≡ none → s ≡ stratifiedSizes ns
+  unfolding stratifiedSizes
+  few-lengths s less z = z ∙ rw (lt-leb (4 + at ns 3) (length ns) (omega (arith, e)))
+
+  pub lengths-behind : (i b : ℕ) → i ≡ at ns 1 → b ≡ at ns 2 → 4 + p ≤ length ns → (s : Option Entries) → s ≡ exactly (length ns) ns (entries i b 0 0) → s ≡ stratifiedSizes ns
+  unfolding stratifiedSizes exactly
+  lengths-behind i b q r less s z = z ∙ rw (eq-eqb (length ns) (length ns) refl, le-leb (4 + at ns 3) (length ns) (omega (arith, e)), q, r)
 
 -- ---- a table
 

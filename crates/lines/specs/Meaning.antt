@@ -11,9 +11,9 @@ use Rattle.command_line.specs.Numbers.{numbersOf, within}
 use Rattle.command_line.specs.Seed.{generatorOf}
 use Rattle.command_line.specs.declared.seed.Seed.{Seed}
 use Rattle.command_line.specs.declared.seed.Seed.the-variants.{Generator, NoSeed}
-use Rattle.lines.specs.Sizes.{Entries, entries, at, exactly, drawSizes, choiceSizes, tableSizes}
+use Rattle.lines.specs.Sizes.{Entries, entries, at, exactly, drawSizes, choiceSizes, tableSizes, stratifiedSizes}
 use Rattle.lines.specs.Told.{Told}
-use Rattle.lines.specs.Means.{Meaning, seedMeans, outputMeans, wordMeans, boundedMeans, rejectingMeans, sampleMeans, viewMeans, partialMeans, shuffleMeans, tailMeans, headMeans, fillMeans, choiceMeans, pickMeans, weightMeans}
+use Rattle.lines.specs.Means.{Meaning, seedMeans, outputMeans, wordMeans, boundedMeans, rejectingMeans, sampleMeans, viewMeans, partialMeans, shuffleMeans, tailMeans, headMeans, fillMeans, choiceMeans, pickMeans, weightMeans, stratifiedMeans}
 
 -- a call: its name, how many entries of each slice its numbers ask for, and what it means
 pub record Call : Type 0 where
@@ -43,6 +43,7 @@ calls =
     ∷ call (ascii "choose_stable") choiceSizes (choiceMeans true)
     ∷ call (ascii "pick") (λ ns. tableSizes 5 (at ns 0) ns) pickMeans
     ∷ call (ascii "weight") (λ ns. tableSizes 4 2 ns) weightMeans
+    ∷ call (ascii "sample_stratified") stratifiedSizes stratifiedMeans
     ∷ []
 
 -- no call

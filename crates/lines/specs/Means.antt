@@ -12,6 +12,7 @@ use Rattle.rng_by_ref.specs.Lending.{Lending, nextOf}
 use Rattle.uniform_int.specs.Rejecting.{Drawing, rejecting}
 use Rattle.uniform_int.specs.Within.{boundedWithin}
 use Rattle.index.specs.Sample.{Sampling, sampleOf}
+use Rattle.stratified.specs.Stratified.{sampleStratifiedOf}
 use Rattle.view_sample.specs.Viewed.{viewSampleOf, drawnOf}
 use Rattle.view_run.specs.Run.{shownOf}
 use Rattle.slice.specs.Shuffled.{Shuffling, partialShuffleOf, wholeShuffleOf}
@@ -69,6 +70,11 @@ sampleTold s =
 
 unfoldable pub sampleMeans : Meaning
 sampleMeans g ns e = some (sampleTold (sampleOf (at ns 0) (at ns 1) (at ns 2) g (blank (e .a)) (blank (e .b))))
+
+-- the lengths of the parts stand behind four numbers, and the amounts behind them
+unfoldable pub stratifiedMeans : Meaning
+stratifiedMeans g ns e =
+    some (sampleTold (sampleStratifiedOf (take (at ns 3) (drop 4 ns)) (drop (4 + at ns 3) ns) (at ns 0) g (blank (e .a)) (blank (e .b))))
 
 -- the items that the view shows
 unfoldable pub viewTold : (items : List ℕ) (slots : ℕ) → Sampling → Told

@@ -49,6 +49,10 @@ followingHints ns = if (leb (4 + at ns 3) (length ns)) (entries 2 (at ns 0) (at 
 unfoldable pub choiceSizes : List ℕ → Option Entries
 choiceSizes ns = cond (ltb (at ns 2) 2) (madeHints ns) (cond (ltb 2 (at ns 2)) none (followingHints ns))
 
+-- BUDGET INDICES SCRATCH PARTS, then so many lengths of parts; what is left are the amounts
+unfoldable pub stratifiedSizes : List ℕ → Option Entries
+stratifiedSizes ns = if (leb (4 + at ns 3) (length ns)) (entries (at ns 1) (at ns 2) 0 0)
+
 -- SUMS PLACES WEIGHTS, the last three of k numbers, then so many places, so many weights for them, and the weights of the table
 unfoldable pub tableSizes : (k a : ℕ) (ns : List ℕ) → Option Entries
 tableSizes k a ns =

@@ -69,6 +69,9 @@ fn make_with(
     if call < 14 {
         return reply::put(drawing::choice(call == 13, rng, n, b, c, d), a);
     }
+    if call > 15 {
+        return sampling::stratified(rng, n, a, b);
+    }
     weigh(19 - call, rng, n, a, b, c, d)
 }
 

@@ -20,10 +20,10 @@ pub struct Request {
 
 // No call.
 fn no_request() -> Request
-    ensures { λ r. ⌜ (r .call ≡ 16) × (r .count ≡ 0) ⌝ }
+    ensures { λ r. ⌜ (r .call ≡ 17) × (r .count ≡ 0) ⌝ }
 {
     Request {
-        call: 16,
+        call: 17,
         rng: Xoshiro256PlusPlus {
             s0: 0,
             s1: 0,
@@ -45,7 +45,7 @@ pub(crate) fn read(line: &[u8], numbers: &mut [u64]) -> Request
     let start = end + 1;
     let stop = field_end(line, start, b' ');
     let call = place_in(
-        b"seed next_u64 next_u32 random_range uniform_int sample partial_shuffle shuffle tail head sample_fill indexed_samples choose choose_stable pick weight",
+        b"seed next_u64 next_u32 random_range uniform_int sample partial_shuffle shuffle tail head sample_fill indexed_samples choose choose_stable pick weight sample_stratified",
         &line[..end],
     );
     let Seed::Generator(rng) = parse_generator(&line[start..stop]) else {

@@ -1,7 +1,7 @@
 // Samples, of indices and of items, reservoirs, shuffles of the numbers 0, 1, .., and the parts of a slice.
-ghost use Prim.Native.Nat.{ℕ, min, _+_, _<_, _^_};
-ghost use lib.ListN.{length};
-ghost use Rattle.lines.specs.Means.{sampleMeans, viewMeans, fillMeans, shuffleTold, partialMeans, shuffleMeans, tailMeans, headMeans};
+ghost use Prim.Native.Nat.{ℕ, min, _+_, _≤_, _<_, _^_};
+ghost use lib.ListN.{length, getD};
+ghost use Rattle.lines.specs.Means.{sampleTold, sampleMeans, stratifiedMeans, viewMeans, fillMeans, shuffleTold, partialMeans, shuffleMeans, tailMeans, headMeans};
 ghost use Rattle.lines.specs.Sizes.{entries};
 ghost use Rattle.lines.specs.Slices.{digestFrom};
 ghost use Rattle.lines.specs.Told.{Tells};
@@ -9,12 +9,24 @@ ghost use mathlib.Core.Bool.{true, cond};
 ghost use mathlib.Core.Option.{some};
 ghost use mathlib.Core.Path.{_≡_};
 ghost use lib.Dec.{eqb};
+ghost use Rattle.index.specs.Sample.{ended as sample·ended};
 ghost use Rattle.slice.specs.Shuffled.{ended};
 use super::reply;
 use super::reply::Reply;
 use super::slices;
 use parts::clipped;
 use xoshiro256plusplus::Xoshiro256PlusPlus;
+
+// The reply of a sample: as many indices as were written.
+fn sampled(s: index::IndexSample, indices: &[u32], scratch: &[u32]) -> Reply
+    ensures { λ r. ⌜ Tells r (now (indices .entry)) (some (sampleTold (sample·ended s (now (indices .entry)) (now (scratch .entry))))) ⌝ }
+{
+    let after = s.rng;
+    let outcome = s.outcome;
+    let end = clipped(s.count, indices.len());
+    let left = slices::digest(slices::digest(0, indices), scratch);
+    reply::replied(outcome.number(), s.words, after, left, 0, end)
+}
 
 // `sample LENGTH AMOUNT BUDGET INDICES SCRATCH`
 pub(crate) fn sample(
@@ -35,11 +47,32 @@ pub(crate) fn sample(
         indices,
         scratch,
     );
-    let after = s.rng;
-    let outcome = s.outcome;
-    let end = clipped(s.count, indices.len());
-    let left = slices::digest(slices::digest(0, indices), scratch);
-    reply::replied(outcome.number(), s.words, after, left, 0, end)
+    sampled(s, indices, scratch)
+}
+
+// `sample_stratified BUDGET INDICES SCRATCH PARTS`, then so many lengths, and the amounts
+pub(crate) fn stratified(
+    rng: Xoshiro256PlusPlus,
+    n: &[u64],
+    indices: &mut [u32],
+    scratch: &mut [u32],
+) -> Reply
+    requires { ⌜ 4 + getD (now n) 3 0 ≤ length (now n) ⌝ }
+    ensures { λ r. ⌜ ((c d : ℕ) → Tells r (now (indices .exit)) (stratifiedMeans rng (now (n .entry)) (entries (length (now (indices .entry))) (length (now (scratch .entry))) c d))) ⌝ }
+{
+    slices::count_from(indices, 0xffff_ffff, 0);
+    slices::count_from(scratch, 0xffff_ffff, 0);
+    let first = 4;
+    let behind = first + slices::number(n, 3) as usize;
+    let s = stratified::sample_stratified(
+        rng,
+        &n[first..behind],
+        &n[behind..],
+        slices::number(n, 0),
+        indices,
+        scratch,
+    );
+    sampled(s, indices, scratch)
 }
 
 // `indexed_samples LENGTH AMOUNT BUDGET INDICES SCRATCH`: the view is run, and what it shows are the values.

@@ -2,7 +2,7 @@
 ghost use mathlib.Core.Option.{none};
 ghost use mathlib.Core.Path.{_≡_};
 ghost use Prim.Native.Nat.{_≤_, _<_};
-ghost use Rattle.lines.specs.Sizes.{entries, sized, exactly as exactly·asked, drawSizes, choiceSizes, tableSizes};
+ghost use Rattle.lines.specs.Sizes.{entries, sized, exactly as exactly·asked, drawSizes, choiceSizes, tableSizes, stratifiedSizes};
 ghost use Rattle.lines.specs.Meaning.{callAt, fits};
 use super::slices::number;
 
@@ -82,6 +82,23 @@ fn choice_sizes(n: &[u64]) -> Sizes
     exactly(n.len(), n, 2, length, lower, count - 4 - lower)
 }
 
+// BUDGET INDICES SCRATCH PARTS, then so many lengths, and the amounts.
+fn stratified_sizes(n: &[u64]) -> Sizes
+    ensures { λ r. ⌜ sized r ≡ stratifiedSizes (now (n .entry)) ⌝ }
+{
+    let indices = number(n, 1);
+    let scratch = number(n, 2);
+    let parts = number(n, 3);
+    let count = n.len() as u64;
+    if count < 4 {
+        return none();
+    }
+    if parts > count - 4 {
+        return none();
+    }
+    exactly(n.len(), n, indices, scratch, 0, 0)
+}
+
 // SUMS PLACES WEIGHTS, the last of k numbers, then the three lists.
 fn table_sizes(n: &[u64], k: usize, a: u64) -> Sizes
     requires { ⌜ (3 ≤ k) × (k < 6) ⌝ }
@@ -127,6 +144,7 @@ pub(crate) fn sizes_of(call: usize, n: &[u64]) -> Sizes
         12..=13 => choice_sizes(n),
         14 => table_sizes(n, 5, number(n, 0)),
         15 => table_sizes(n, 4, 2),
+        16 => stratified_sizes(n),
         _ => none(),
     }
 }

@@ -8,7 +8,7 @@ use lib.ListN.{getD}
 use Rattle.refusal.specs.Answer.{answerOf}
 use Rattle.refusal.specs.Number.{number}
 use Rattle.refusal.specs.declared.Refusal.{Refusal}
-use Rattle.refusal.specs.declared.Refusal.the-variants.{AmountExceedsLength, NoWeights, Overflow, InsufficientNonZero, PlacesNotIncreasing, PlaceOutOfRange, InvalidTable, SliceTooShort, ScratchTooShort, TooLong, InvalidHints, ZeroState, BudgetExhausted, ContentsCutShort, UnknownKind, LayoutMismatch}
+use Rattle.refusal.specs.declared.Refusal.the-variants.{AmountExceedsLength, NoWeights, Overflow, InsufficientNonZero, PlacesNotIncreasing, PlaceOutOfRange, InvalidTable, SliceTooShort, ScratchTooShort, TooLong, InvalidHints, ZeroState, BudgetExhausted, ContentsCutShort, UnknownKind, LayoutMismatch, PartsMismatch}
 use Rattle.refusal.specs.declared.Outcome.{Outcome}
 use Rattle.refusal.specs.declared.Outcome.the-variants.{Done, Refused}
 
@@ -39,3 +39,4 @@ refused-number BudgetExhausted = refl
 refused-number ContentsCutShort = refl
 refused-number UnknownKind = refl
 refused-number LayoutMismatch = refl
+refused-number PartsMismatch = refl

@@ -1,7 +1,7 @@
 -- The numbers of document 01's table of refusals, which document 02 goes on with.
 use Prim.Native.Nat.{ℕ}
 use Rattle.refusal.specs.declared.Refusal.{Refusal}
-use Rattle.refusal.specs.declared.Refusal.the-variants.{AmountExceedsLength, NoWeights, Overflow, InsufficientNonZero, PlacesNotIncreasing, PlaceOutOfRange, InvalidTable, SliceTooShort, ScratchTooShort, TooLong, InvalidHints, ZeroState, BudgetExhausted, ContentsCutShort, UnknownKind, LayoutMismatch}
+use Rattle.refusal.specs.declared.Refusal.the-variants.{AmountExceedsLength, NoWeights, Overflow, InsufficientNonZero, PlacesNotIncreasing, PlaceOutOfRange, InvalidTable, SliceTooShort, ScratchTooShort, TooLong, InvalidHints, ZeroState, BudgetExhausted, ContentsCutShort, UnknownKind, LayoutMismatch, PartsMismatch}
 
 -- the row of the table
 abbrev pub number : Refusal → ℕ
@@ -21,3 +21,4 @@ number BudgetExhausted = 13
 number ContentsCutShort = 14
 number UnknownKind = 15
 number LayoutMismatch = 16
+number PartsMismatch = 17

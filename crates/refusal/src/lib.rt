@@ -37,6 +37,8 @@ pub enum Refusal {
     UnknownKind,
     // The bodies of a draw book do not lie as its contents say, or it is too long.
     LayoutMismatch,
+    // The lists of a stratified sample differ in length, or its parts have more than 2^32 - 1 indices together.
+    PartsMismatch,
 }
 
 impl Refusal {
@@ -61,6 +63,7 @@ impl Refusal {
             Refusal::ContentsCutShort => 14,
             Refusal::UnknownKind => 15,
             Refusal::LayoutMismatch => 16,
+            Refusal::PartsMismatch => 17,
         }
     }
 }

@@ -1,6 +1,7 @@
 -- Demand 3: no ordered sample, shuffle, reservoir or weighted pick has more or less than its share. One field for each of its sentences, in
 -- their order, over the definitions that the calls' contracts cite. A share is the number of lists of draws, or of words, that give a result:
--- `countLists p bounds` counts the lists with an entry below each bound that pass the test p, and `count` counts numbers.
+-- `countLists p bounds` counts the lists with an entry below each bound that pass the test p, and `count` counts numbers. A stratified sample, which
+-- joins samples of several parts, has a record of its own: `StratifiedShares` in crate `stratified_shares`.
 use mathlib.Core.Path.{_≡_}
 use mathlib.Core.Logic.{_⊎_}
 use mathlib.Core.Bool.{true, false}

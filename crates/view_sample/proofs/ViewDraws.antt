@@ -3,12 +3,11 @@
 use mathlib.Core.Path.{_≡_, refl, sym, _∙_, subst}
 use mathlib.Core.Bool.{Bool, true, false, cond, false≢true}
 use mathlib.Core.List.{List, [], _∷_, _++_}
-use Prim.Native.Nat.{ℕ, zero, suc, _-_, _%_, _^_, _≤_, _<_, min}
+use Prim.Native.Nat.{ℕ, zero, suc, _-_, _^_, _≤_, _<_, min}
 use native.Mathlib.Nat.{min-le-right}
 use native.Mathlib.Omega.{arith}
 use lib.Dec.{eqb, ltb}
 use lib.ListN.{length, getD, take, drop}
-use lib.Pow.{pow-pos}
 use lib.Seq.{take-at}
 use borrow.Author.Tests.{ltb-true, ltb-false, eq-eqb}
 use Rattle.refusal.specs.Number.{number}
@@ -16,16 +15,11 @@ use Rattle.refusal.specs.declared.Outcome.the-variants.{Done}
 use Rattle.refusal.specs.declared.Refusal.{Refusal}
 use Rattle.refusal.specs.declared.Refusal.the-variants.{AmountExceedsLength}
 use Rattle.refusal.proofs.Outcomes.{refused-number}
-use Rattle.xoshiro256plusplus.specs.Generator.{word, advance, zeroState}
+use Rattle.xoshiro256plusplus.specs.Generator.{zeroState}
 use Rattle.xoshiro256plusplus.specs.declared.Xoshiro256PlusPlus.{Xoshiro256PlusPlus}
-use Rattle.xoshiro256plusplus.proofs.Laws.{word-lt}
-use Rattle.counting.specs.Bounds.{rising}
 use Rattle.counting.specs.Lists.{Below}
 use Rattle.uniform_int.specs.Draws.{Draws, draws}
-use Rattle.uniform_int.specs.Rejecting.{accepts, scaled}
-use Rattle.uniform_int.specs.Reads.{Positive}
 use Rattle.uniform_int.proofs.InTurn.{draws-give}
-use Rattle.uniform_int.proofs.Scaling.{upper-lt}
 use Rattle.crossover.specs.Method.{methodOf}
 use Rattle.crossover.specs.declared.Method.{Method}
 use Rattle.crossover.specs.declared.Method.the-variants.{Floyd, InPlace, Rejection}
@@ -35,9 +29,10 @@ use Rattle.index_methods.specs.Rejection.{Found, foundOf, acceptedOf}
 use Rattle.index.specs.Sample.{Sampling, refuses, written, byFloyd, byInPlace, byRejection, sampleOf}
 use Rattle.index_shares.specs.Shares.{SampleOf}
 use Rattle.index.proofs.Cases.{Fit, slice-short, floyd, scratch-short, in-place, rejection, positive}
-use Rattle.index_methods.proofs.FloydTurns.{length-sample}
+use Rattle.index_methods.proofs.FloydTurns.{length-sample, floyd-positive}
 use Rattle.index_methods.proofs.InPlaceTurns.{falling-positive}
 use Rattle.index_shares.proofs.Shares.{index-shares}
+use Rattle.index_shares.proofs.Words.{accepted-below}
 use Rattle.indexed_samples.proofs.View.{some}
 use Rattle.view_sample.specs.Viewed.{drawnOf, viewSampleOf, ViewDraws}
 use Rattle.view_sample.proofs.Cases.{zero-state, too-long, sampled, all-drawn}
@@ -117,29 +112,15 @@ all-written : (n amount : ℕ) (all : Bool) (count : ℕ) (l : List ℕ) → (al
 all-written n amount true count l p e = rw (all-drawn Done count l refl) (p refl)
 all-written n amount false count l p e = absurd (omega (arith, e))
 
-rising-positive : (j m : ℕ) → Positive (rising j m)
-unfolding rising
-rising-positive j zero = tt
-rising-positive j (suc m) = (omega arith, rising-positive (suc j) m)
-
-accepted-below : (r n : ℕ) (g : Xoshiro256PlusPlus) → 0 < r → Below r (acceptedOf r n g)
-unfolding acceptedOf scaled
-accepted-below r zero g h = tt
-accepted-below r (suc n) g h = go (accepts (2 ^ 32) r (2 ^ 32 % r) (word g)) (accepted-below r n (advance g) h)
-  where
-    go : (b : Bool) → Below r (acceptedOf r n (advance g)) → Below r (elim b [ true ↦ scaled (2 ^ 32) r (word g) ∷ acceptedOf r n (advance g) | false ↦ acceptedOf r n (advance g) ])
-    go true ih = (upper-lt (2 ^ 32) r (word g) (pow-pos 32) h (word-lt g), ih)
-    go false ih = ih
-
 module _ (n amount budget : ℕ) (g : Xoshiro256PlusPlus) (indices scratch : List ℕ) (k : amount ≤ n) where
   by-floyd : Sample n amount (byFloyd n amount (draws budget (floydBounds n amount) g) indices scratch)
-  unfolding byFloyd floydBounds
+  unfolding byFloyd
   by-floyd =
       let d : Draws = draws budget (floydBounds n amount) g in
       let l : List ℕ = floydOf n amount (d .values) in
       all-written n amount (d .all) (length (d .values)) (l ++ drop (length (d .values)) indices)
       (λ a. rw (take-at l (drop (length (d .values)) indices) (length (d .values)) (length-sample n amount (d .values)))
-      (index-shares .floyd-sample n amount (d .values) k (draws-give budget (floydBounds n amount) g (rising-positive (n - amount) amount) .all a)))
+      (index-shares .floyd-sample n amount (d .values) k (draws-give budget (floydBounds n amount) g (floyd-positive n amount) .all a)))
 
   by-in-place : Sample n amount (byInPlace n amount (draws budget (falling n amount) g) indices scratch)
   unfolding byInPlace

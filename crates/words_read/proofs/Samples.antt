@@ -32,14 +32,14 @@ not-all : (b : Bool) (count : ℕ) → written b count .number ≡ 13 → b ≡ 
 not-all true count e = absurd (omega arith)
 not-all false count e = refl
 
+abbrev pub Told : (budget : ℕ) → Xoshiro256PlusPlus → Sampling → Type 0
+Told budget g s = ReadsWithin budget g (s .answer) (s .words) (s .rng)
+
+pub refused : (budget : ℕ) (g : Xoshiro256PlusPlus) (indices scratch : List ℕ) (why : Refusal) → (number why ≡ 13 → ⊥) → Told budget g (refuses why g indices scratch)
+unfolding refuses
+refused budget g indices scratch why other = record { after = sym (steps-zero g); within = omega arith; spent = λ e. absurd (other e) }
+
 module _ (n amount budget : ℕ) (g : Xoshiro256PlusPlus) (indices scratch : List ℕ) where
-  abbrev Told : Sampling → Type 0
-  Told s = ReadsWithin budget g (s .answer) (s .words) (s .rng)
-
-  refused : (why : Refusal) → (number why ≡ 13 → ⊥) → Told (refuses why g indices scratch)
-  unfolding refuses
-  refused why other = record { after = sym (steps-zero g); within = omega arith; spent = λ e. absurd (other e) }
-
   -- what draws in turn leave, whatever count is told
   drawn : (bounds : List ℕ) (count : ℕ) → ReadsWithin budget g (written (draws budget bounds g .all) count) (draws budget bounds g .words) (draws budget bounds g .rng)
   drawn bounds count =
@@ -50,41 +50,41 @@ module _ (n amount budget : ℕ) (g : Xoshiro256PlusPlus) (indices scratch : Lis
   unfolding foundOf
   found = rw (add-zero budget) at (found-read n amount budget [] g 0 g (sym (steps-zero g)))
 
-  by-method : (m : Method) → Told (byMethod m n amount budget g indices scratch)
+  by-method : (m : Method) → Told budget g (byMethod m n amount budget g indices scratch)
   unfolding byMethod byFloyd byInPlace byRejection
   by-method Floyd = drawn (floydBounds n amount) _
   by-method InPlace = go (ltb (length scratch) n)
     where
-      go : (b : Bool) → Told (cond b (refuses ScratchTooShort g indices scratch) (byInPlace n amount (draws budget (falling n amount) g) indices scratch))
-      go true = refused ScratchTooShort (λ h. omega arith)
+      go : (b : Bool) → Told budget g (cond b (refuses ScratchTooShort g indices scratch) (byInPlace n amount (draws budget (falling n amount) g) indices scratch))
+      go true = refused budget g indices scratch ScratchTooShort (λ h. omega arith)
       go false = drawn (falling n amount) _
   by-method Rejection =
       record { after = found .rng; within = found .few; spent = λ e. found .spent (not-all (foundOf n amount budget g .all) (length (foundOf n amount budget g .indices)) e) }
 
-  pub sample : Told (sampleOf n amount budget g indices scratch)
+  pub sample : Told budget g (sampleOf n amount budget g indices scratch)
   unfolding sampleOf
   sample = go (zeroState g) (ltb (2 ^ 32 - 1) n) (ltb n amount) (ltb (length indices) amount)
     where
       go : (z t o s : Bool)
-          → Told (cond z (refuses ZeroState g indices scratch) (cond t (refuses TooLong g indices scratch)
+          → Told budget g (cond z (refuses ZeroState g indices scratch) (cond t (refuses TooLong g indices scratch)
           (cond o (refuses AmountExceedsLength g indices scratch) (cond s (refuses SliceTooShort g indices scratch)
           (byMethod (methodOf n amount) n amount budget g indices scratch)))))
-      go true t o s = refused ZeroState (λ h. omega arith)
-      go false true o s = refused TooLong (λ h. omega arith)
-      go false false true s = refused AmountExceedsLength (λ h. omega arith)
-      go false false false true = refused SliceTooShort (λ h. omega arith)
+      go true t o s = refused budget g indices scratch ZeroState (λ h. omega arith)
+      go false true o s = refused budget g indices scratch TooLong (λ h. omega arith)
+      go false false true s = refused budget g indices scratch AmountExceedsLength (λ h. omega arith)
+      go false false false true = refused budget g indices scratch SliceTooShort (λ h. omega arith)
       go false false false false = by-method (methodOf n amount)
 
 -- ---- the view
 
 module _ (n amount budget : ℕ) (g : Xoshiro256PlusPlus) (indices scratch : List ℕ) where
-  pub view : Told n amount budget g indices scratch (viewSampleOf n amount budget g indices scratch)
+  pub view : Told budget g (viewSampleOf n amount budget g indices scratch)
   unfolding viewSampleOf
   view = go (zeroState g) (ltb (2 ^ 32 - 2) n)
     where
       go : (z t : Bool)
-          → Told n amount budget g indices scratch
+          → Told budget g
           (cond z (refuses ZeroState g indices scratch) (cond t (refuses TooLong g indices scratch) (sampleOf n (min amount n) budget g indices scratch)))
-      go true t = refused n amount budget g indices scratch ZeroState (λ h. omega arith)
-      go false true = refused n amount budget g indices scratch TooLong (λ h. omega arith)
+      go true t = refused budget g indices scratch ZeroState (λ h. omega arith)
+      go false true = refused budget g indices scratch TooLong (λ h. omega arith)
       go false false = sample n (min amount n) budget g indices scratch

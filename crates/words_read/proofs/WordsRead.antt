@@ -6,6 +6,7 @@ use Rattle.uniform_int.specs.Rejecting.{Drawing}
 use Rattle.choose.proofs.ChoiceWords.{Reads, choose-reads, stable-reads}
 use Rattle.words_read.specs.WordsRead.{ReadsWithin, WordsRead}
 use Rattle.words_read.proofs.Samples.{sample, view}
+use Rattle.words_read.proofs.Stratified.{stratified}
 use Rattle.words_read.proofs.Others.{partial-shuffle, shuffle, fill, pick, lent-word}
 
 chosen : (g : Xoshiro256PlusPlus) (budget : ℕ) (d : Drawing) → Reads g budget d → ReadsWithin budget g (d .answer) (d .words) (d .rng)
@@ -16,6 +17,7 @@ words-read =
     record {
       sample = sample;
       view = view;
+      stratified = stratified;
       partial-shuffle = partial-shuffle;
       shuffle = shuffle;
       fill = fill;

@@ -15,6 +15,7 @@ use Rattle.weighted_index.specs.declared.answer.WeightedIndex.{WeightedIndex}
 use Rattle.pick.specs.Pick.{pickOf}
 use Rattle.choose.specs.Choose.{chooseOf, chooseStableOf}
 use Rattle.view_sample.specs.Viewed.{viewSampleOf}
+use Rattle.stratified.specs.Stratified.{sampleStratifiedOf}
 use Rattle.rng_by_ref.specs.Lending.{Lending, nextOf}
 
 -- A call without a budget: the generator handed back is the one after as many steps as the words figure says, and 13 is no answer.
@@ -35,6 +36,9 @@ pub record WordsRead : Type 0 where
       → (let s : Sampling = sampleOf n amount budget g indices scratch in ReadsWithin budget g (s .answer) (s .words) (s .rng))
   pub view : (n amount budget : ℕ) (g : Xoshiro256PlusPlus) (indices scratch : List ℕ)
       → (let s : Sampling = viewSampleOf n amount budget g indices scratch in ReadsWithin budget g (s .answer) (s .words) (s .rng))
+  -- the stratified sample, whose parts share one budget
+  pub stratified : (lengths amounts : List ℕ) (budget : ℕ) (g : Xoshiro256PlusPlus) (indices scratch : List ℕ)
+      → (let s : Sampling = sampleStratifiedOf lengths amounts budget g indices scratch in ReadsWithin budget g (s .answer) (s .words) (s .rng))
   -- the two shuffles and the fill
   pub partial-shuffle : (amount budget : ℕ) (g : Xoshiro256PlusPlus) (items : List ℕ)
       → (let s : Shuffling = partialShuffleOf amount budget g items in ReadsWithin budget g (s .answer) (s .words) (s .rng))

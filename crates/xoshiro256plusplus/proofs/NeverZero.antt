@@ -94,7 +94,7 @@ back g z =
 step : (g : Xoshiro256PlusPlus) → zeroState g ≡ false → zeroState (advance g) ≡ false
 step g h = not-zero (advance g) (λ z. false≢true (sym h ∙ zero-state g (back g z)))
 
-stepping : (g : Xoshiro256PlusPlus) (count : ℕ) → zeroState g ≡ false → zeroState (steps count g) ≡ false
+pub stepping : (g : Xoshiro256PlusPlus) (count : ℕ) → zeroState g ≡ false → zeroState (steps count g) ≡ false
 unfolding steps
 stepping g zero h = h
 stepping g (suc count) h = step (steps count g) (stepping g count h)

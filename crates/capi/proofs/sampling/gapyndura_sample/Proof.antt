@@ -1,19 +1,11 @@
 -- `gapyndura_sample` meets its contract. Assumes nothing.
-use mathlib.Core.Path.{ap, _∙_}
-use Rattle.capi.specs.Sampling.{sampled}
-use Rattle.capi.proofs.Packed.{packed-sample}
+use Rattle.capi.proofs.Packed.{packed-into}
 use borrow.Author.Needs.{needs}
 use Rattle.capi.proofs.sampling.gapyndura_sample.Statement.{statement}
 use Rattle.capi.proofs.sampling.gapyndura_sample.Tie as tie
 
-load-requires : tie.Need-load-requires
-load-requires c κs = search needs
-
-sample-requires : tie.Need-sample-requires
-sample-requires c κs = search needs
-
-report-requires : tie.Need-report-requires
-report-requires c κs = search needs
+sample-into-requires : tie.Need-sample-into-requires
+sample-into-requires c κs = search needs
 
 number-requires : tie.Need-number-requires
 number-requires c κs = search needs
@@ -25,20 +17,8 @@ same-length-2 : tie.Need-same-length-2
 same-length-2 c = search needs
 
 returns : tie.Need-returns
-returns c =
-    let s = c .before .before .before .before .before .before .before .before .before .sample in
-    let done = rw (c .before .before .before .before .before .before .before .before .before .before .before .before .load .ensures) at (s .ensures) in
-    let told = c .before .report .ensures in
-    packed-sample _ _ _ (s .result) _ _ (c .number .ensures) (told .0) (told .1) ∙ ap sampled done
+returns c = let s = c .before .before .before .before .before in packed-into _ (s .sample-into .result) _ _ _ _ _ (s .sample-into .ensures) (c .number .ensures)
 
 pub gapyndura-sample-spec : {M : Type 1} → statement M
 gapyndura-sample-spec =
-    tie.close
-    (tie.spec
-    load-requires
-    sample-requires
-    report-requires
-    number-requires
-    same-length
-    same-length-2
-    returns)
+    tie.close (tie.spec sample-into-requires number-requires same-length same-length-2 returns)

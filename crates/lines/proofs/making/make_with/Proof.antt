@@ -1,8 +1,8 @@
 -- `make_with` meets its contract: the tests tell which calls are left. Assumes nothing.
 use native.Mathlib.Omega.{arith}
-use Rattle.lines.proofs.Fitting.{two-entries, bounds, choice-at, in-table, table-at, choice-means, table-means}
+use Rattle.lines.proofs.Fitting.{two-entries, bounds, choice-at, in-table, table-at, strata-at, choice-means, table-means}
 use Rattle.lines.proofs.Replies.{gives, put-gives}
-use Rattle.lines.proofs.Rows.{means-11}
+use Rattle.lines.proofs.Rows.{means-11, means-16}
 use Rattle.lines.specs.Sizes.{entries}
 use Rattle.lines.specs.Told.{Tells}
 use borrow.Author.Needs.{needs}
@@ -22,7 +22,7 @@ viewed c = c .before .before .before .before .before .before .before .before
 abbrev chosen : tie.After-slice-known14 → tie.After-choice
 chosen c = c .before .before .before .before .before .before
 
-abbrev weighed : tie.After-slice-known19 → tie.After-weigh
+abbrev weighed : tie.After-slice-known21 → tie.After-weigh
 weighed c = c .before .before .before .before .before .before .before .before
 
 draw-requires : tie.Need-draw-requires
@@ -107,13 +107,8 @@ returns-4 c =
     let t = s .before .before .before .before in
     put-gives _ _ _ _ (c .before .before .put2 .ensures) (gives _ _ _ (choice-means _ _ _ _ (t .before .if3 .left) (t .if4 .taken)) (s .choice .ensures _))
 
-sub-weigh : tie.Need-sub-weigh
-sub-weigh c = omega (arith, in-table _ _ _ (last-begun (c .before) .pre))
-
-weigh-requires : tie.Need-weigh-requires
-weigh-requires c κs =
-    let t = c .before .before .before .before in
-    table-at _ _ _ (last-begun (t .before) .pre) (t .if4 .left)
+stratified-requires : tie.Need-stratified-requires
+stratified-requires c κs = let t = c .before .before in strata-at _ _ _ (last-begun (t .before .before) .pre) (t .if5 .taken)
 
 same-length-12 : tie.Need-same-length-12
 same-length-12 c = search needs
@@ -121,17 +116,38 @@ same-length-12 c = search needs
 same-length-13 : tie.Need-same-length-13
 same-length-13 c = search needs
 
+returns-5 : tie.Need-returns-5
+returns-5 c =
+    let s = c .before .before .before .before in
+    let t = s .before .before .before in
+    let k = last-begun (t .before .before) .args .call in
+    rw (means-16 k (omega (arith, t .if5 .taken, in-table _ _ _ (last-begun (t .before .before) .pre))) _ _ _) (s .stratified .ensures _ _)
+
+sub-weigh : tie.Need-sub-weigh
+sub-weigh c = omega (arith, c .if5 .left)
+
+weigh-requires : tie.Need-weigh-requires
+weigh-requires c κs =
+    let t = c .before .before .before .before in
+    table-at _ _ _ (last-begun (t .before .before) .pre) (t .before .if4 .left) (omega (arith, t .if5 .left))
+
 same-length-14 : tie.Need-same-length-14
 same-length-14 c = search needs
 
 same-length-15 : tie.Need-same-length-15
 same-length-15 c = search needs
 
-returns-5 : tie.Need-returns-5
-returns-5 c =
+same-length-16 : tie.Need-same-length-16
+same-length-16 c = search needs
+
+same-length-17 : tie.Need-same-length-17
+same-length-17 c = search needs
+
+returns-6 : tie.Need-returns-6
+returns-6 c =
     let s = weighed c in
     let t = s .before .before .before .before .before in
-    table-means _ _ _ _ (Tells _ _) (t .if4 .left) (in-table _ _ _ (last-begun (t .before) .pre)) (s .weigh .ensures)
+    table-means _ _ _ _ (Tells _ _) (t .before .if4 .left) (omega (arith, t .if5 .left)) (s .weigh .ensures)
 
 pub make-with-spec : {M : Type 1} → statement M
 make-with-spec =
@@ -158,10 +174,14 @@ make-with-spec =
     same-length-10
     same-length-11
     returns-4
-    sub-weigh
-    weigh-requires
+    stratified-requires
     same-length-12
     same-length-13
+    returns-5
+    sub-weigh
+    weigh-requires
     same-length-14
     same-length-15
-    returns-5)
+    same-length-16
+    same-length-17
+    returns-6)

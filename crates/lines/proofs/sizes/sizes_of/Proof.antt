@@ -1,7 +1,7 @@
 -- `sizes_of` meets its contract: an arm knows the place of its call. Assumes nothing.
 use mathlib.Core.Path.{_≡_, sym, _∙_}
 use Rattle.choose_method.proofs.NoneOf.{behind}
-use Rattle.lines.proofs.Rows.{sizes-5, sizes-6, sizes-7, sizes-10, sizes-11, sizes-14, sizes-15, sizes-small, sizes-draw, sizes-part, sizes-choice, sizes-past}
+use Rattle.lines.proofs.Rows.{sizes-5, sizes-6, sizes-7, sizes-10, sizes-11, sizes-14, sizes-15, sizes-16, sizes-small, sizes-draw, sizes-part, sizes-choice, sizes-past}
 use borrow.Author.Needs.{needs}
 use Rattle.lines.proofs.sizes.sizes_of.Statement.{statement}
 use Rattle.lines.proofs.sizes.sizes_of.Tie as tie
@@ -60,6 +60,9 @@ table-sizes-requires c κs = search needs
 table-sizes-requires-2 : tie.Need-table-sizes-requires-2
 table-sizes-requires-2 c κs = search needs
 
+stratified-sizes-requires : tie.Need-stratified-sizes-requires
+stratified-sizes-requires c κs = search needs
+
 exactly-requires-6 : tie.Need-exactly-requires-6
 exactly-requires-6 c κs = search needs
 
@@ -100,31 +103,34 @@ returns-7 : tie.Need-returns-7
 returns-7 c = (c .table-sizes2 .ensures) ∙ sym (sizes-15 _ (c .before .match .keys7) _)
 
 returns-8 : tie.Need-returns-8
-returns-8 c = (c .exactly6 .ensures) ∙ sym (sizes-small (c .before .before .before .before .args .call) (c .before .if1 .taken) _)
+returns-8 c = (c .stratified-sizes .ensures) ∙ sym (sizes-16 _ (c .before .match .keys8) _)
 
 returns-9 : tie.Need-returns-9
-returns-9 c = (c .draw-sizes .ensures) ∙ sym (sizes-draw (c .before .before .before .before .before .args .call) (c .before .before .if1 .left) (c .before .if2 .taken) _)
+returns-9 c = (c .exactly6 .ensures) ∙ sym (sizes-small (c .before .before .before .before .args .call) (c .before .if1 .taken) _)
 
 returns-10 : tie.Need-returns-10
-returns-10 c =
-    let t = c .before .before in
-    let m = t .before .before .before in
-    let k = m .before .before .args .call in
-    (rw (c .before .number12 .ensures) at (c .exactly7 .ensures)) ∙ sym (sizes-part k (behind 5 3 k (t .before .if2 .left) (m .match .rest .0 .0 .0 .0)) (t .if3 .taken) _)
+returns-10 c = (c .draw-sizes .ensures) ∙ sym (sizes-draw (c .before .before .before .before .before .args .call) (c .before .before .if1 .left) (c .before .if2 .taken) _)
 
 returns-11 : tie.Need-returns-11
 returns-11 c =
-    let t = c .before in
-    let m = t .before .before .before .before in
+    let t = c .before .before in
+    let m = t .before .before .before in
     let k = m .before .before .args .call in
-    (c .choice-sizes .ensures) ∙ sym (sizes-choice k (behind 10 2 k (t .before .if3 .left) ((tt, m .match .rest .0 .0 .0 .1), m .match .rest .0 .0 .1)) (t .if4 .taken) _)
+    (rw (c .before .number12 .ensures) at (c .exactly7 .ensures)) ∙ sym (sizes-part k (behind 5 3 k (t .before .if2 .left) (m .match .rest .0 .0 .0 .0 .0)) (t .if3 .taken) _)
 
 returns-12 : tie.Need-returns-12
 returns-12 c =
     let t = c .before in
     let m = t .before .before .before .before in
     let k = m .before .before .args .call in
-    (c .none .ensures) ∙ sym (sizes-past k (behind 14 2 k (t .if4 .left) ((tt, m .match .rest .0 .1), m .match .rest .1)) _)
+    (c .choice-sizes .ensures) ∙ sym (sizes-choice k (behind 10 2 k (t .before .if3 .left) ((tt, m .match .rest .0 .0 .0 .0 .1), m .match .rest .0 .0 .0 .1)) (t .if4 .taken) _)
+
+returns-13 : tie.Need-returns-13
+returns-13 c =
+    let t = c .before in
+    let m = t .before .before .before .before in
+    let k = m .before .before .args .call in
+    (c .none .ensures) ∙ sym (sizes-past k (behind 14 3 k (t .if4 .left) (((tt, m .match .rest .0 .0 .1), m .match .rest .0 .1), m .match .rest .1)) _)
 
 pub sizes-of-spec : {M : Type 1} → statement M
 sizes-of-spec =
@@ -148,6 +154,7 @@ sizes-of-spec =
     number-requires-11
     table-sizes-requires
     table-sizes-requires-2
+    stratified-sizes-requires
     exactly-requires-6
     draw-sizes-requires
     number-requires-12
@@ -165,4 +172,5 @@ sizes-of-spec =
     returns-9
     returns-10
     returns-11
-    returns-12)
+    returns-12
+    returns-13)
