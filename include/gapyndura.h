@@ -18,7 +18,7 @@
 
 /* The version: 1 for the base, and one more with each request (docs/requests/). A caller can test it by #if; CHANGELOG.md says what has
  * to be changed in the caller, if anything has. */
-#define GAPYNDURA_VERSION 7
+#define GAPYNDURA_VERSION 8
 
 #ifdef __cplusplus
 extern "C" {
@@ -43,7 +43,8 @@ enum gapyndura_refusal {
     GAPYNDURA_BUDGET_EXHAUSTED = 13,
     GAPYNDURA_CONTENTS_CUT_SHORT = 14,
     GAPYNDURA_UNKNOWN_KIND = 15,
-    GAPYNDURA_LAYOUT_MISMATCH = 16
+    GAPYNDURA_LAYOUT_MISMATCH = 16,
+    GAPYNDURA_PARTS_MISMATCH = 17
 };
 
 /* An answer in words, as a text that is never freed. Any number will do: of one that has no name the text says that no call answers
@@ -68,6 +69,7 @@ static inline const char *gapyndura_refusal_text(uint32_t number)
     case GAPYNDURA_CONTENTS_CUT_SHORT: return "the book's contents are cut short or of more than 64 jobs";
     case GAPYNDURA_UNKNOWN_KIND: return "a job of the book is of an unknown kind";
     case GAPYNDURA_LAYOUT_MISMATCH: return "the book's bodies do not lie as they must, or it is too long";
+    case GAPYNDURA_PARTS_MISMATCH: return "the lists of parts differ in count, or the whole is too long";
     default: return "no call answers this number";
     }
 }
@@ -131,6 +133,40 @@ uint32_t gapyndura_next_u32(uint64_t state[4], uint64_t out[2]);
  * No pointer is null, scratch neither where scratch_len is 0, nor indices where indices_len is 0. */
 uint32_t gapyndura_sample(uint64_t state[4], uint64_t length, uint64_t amount, uint64_t budget,
                           uint32_t *indices, size_t indices_len, uint32_t *scratch, size_t scratch_len, uint64_t out[2]);
+
+/* Draws a stratified sample: of each part of a whole as many distinct indices as are wanted of it, the parts one behind the other, to
+ * the front of indices. Part i has the lengths[i] indices from its start on, which is the sum of the lengths before it; amounts[i] of
+ * them are wanted. budget is the most words that the call may read, for all parts together.
+ *
+ * Each part in turn is a gapyndura_sample with its own length and amount, and so by the method that these choose, from the generator that
+ * the part before has left and with what is left of budget. The start is then added to the indices drawn. All parts use the same scratch,
+ * to which nothing is added. A part of which none is wanted reads no word, and its length counts for the starts behind it. There may be
+ * no parts: then no word is read. A call uses as much stack as gapyndura_sample.
+ *
+ * Answers 0 where all parts are drawn, else the number of the first cause here that applies to any of them:
+ *   12  all four words of state are 0: that is no generator
+ *   17  lengths_len and amounts_len differ, or the lengths add up to more than 2^32 - 1
+ *    1  an amount is above its length
+ *    8  indices_len is below the sum of the amounts
+ *    9  the method in place is due for a part, and scratch_len is below its length
+ *   13  a word is needed, and budget words are read
+ *
+ * On every answer:
+ *   state    is the generator after the words read;
+ *   out[0]   is the words read: 0 on a refusal other than 13, exactly budget on 13;
+ *   out[1]   is the count of indices written: the sum of the amounts on 0, 0 on refusals other than 13;
+ *   indices  has out[1] indices at its front and is unchanged behind them: on 0 the samples of the parts, each in the order drawn;
+ *   scratch  is unchanged, but where the method in place has drawn: each part by it leaves what its gapyndura_sample does, over what the
+ *            parts before have left.
+ *
+ * On 13 indices has the samples of all finished parts, and behind them what gapyndura_sample leaves there on 13 of the part that is not
+ * finished, its start added; out[1] counts both.
+ *
+ * A refusal other than 13 is settled for all parts before the first word: it reads nothing and changes nothing. No pointer is null, neither
+ * where the length that goes with it is 0. */
+uint32_t gapyndura_sample_stratified(uint64_t state[4], const uint64_t *lengths, size_t lengths_len, const uint64_t *amounts,
+                                     size_t amounts_len, uint64_t budget, uint32_t *indices, size_t indices_len,
+                                     uint32_t *scratch, size_t scratch_len, uint64_t out[2]);
 
 /* Shuffles amount of the len items to the end of the slice: n = len - amount, or 0 where amount is above len, is the place where
  * that tail starts. The items before n are the others, in an order that is not shuffled. A caller has both parts by n and the

@@ -9,9 +9,9 @@
 
 #include <gapyndura.h>
 
-/* The calls are made as version 7 has them; CHANGELOG.md says what a later one changes. */
-#if GAPYNDURA_VERSION != 7
-#error "this program is written for version 7 of gapyndura.h"
+/* The calls are made as version 8 has them; CHANGELOG.md says what a later one changes. */
+#if GAPYNDURA_VERSION != 8
+#error "this program is written for version 8 of gapyndura.h"
 #endif
 
 /* The most words that a call may read: each that draws could else read on for ever. */
@@ -53,6 +53,16 @@ static void sample_in_place(uint64_t state[4])
     uint64_t out[2];
     must("sample", gapyndura_sample(state, 50, 20, BUDGET, closings, 20, scratch, 50, out));
     print_list("in place", closings, out[1], out[0]);
+}
+
+/* Of each of three gates as many closings as are wanted of it. Closings are numbered through: those of the last gate from 65 on. */
+static void sample_each_gate(uint64_t state[4])
+{
+    const uint64_t lengths[3] = {40, 25, 10}, amounts[3] = {3, 0, 2};
+    uint32_t closings[5], scratch[1];
+    uint64_t out[2];
+    must("stratified sample", gapyndura_sample_stratified(state, lengths, 3, amounts, 3, BUDGET, closings, 5, scratch, 0, out));
+    print_list("of each gate", closings, out[1], out[0]);
 }
 
 /* Two of the five staffs at hand, at the end of their slice, and three of them into a buffer. */
@@ -98,9 +108,12 @@ static void choose_reader(uint64_t state[4])
 /* Calls that are declined: the answer is the number of the cause, and nothing has changed but where the budget is used up: then it is read. */
 static void be_refused(uint64_t state[4])
 {
+    const uint64_t lengths[2] = {40, 25}, amounts[1] = {3};
     uint32_t closings[200], scratch[1], number;
     uint64_t out[2];
     number = gapyndura_sample(state, 3, 4, BUDGET, closings, 200, scratch, 0, out);
+    printf("refused with %" PRIu32 ": %s (words read: %" PRIu64 ")\n", number, gapyndura_refusal_text(number), out[0]);
+    number = gapyndura_sample_stratified(state, lengths, 2, amounts, 1, BUDGET, closings, 200, scratch, 0, out);
     printf("refused with %" PRIu32 ": %s (words read: %" PRIu64 ")\n", number, gapyndura_refusal_text(number), out[0]);
     number = gapyndura_sample(state, 1000000, 200, 7, closings, 200, scratch, 0, out);
     if (number == GAPYNDURA_BUDGET_EXHAUSTED)
@@ -117,6 +130,7 @@ int main(void)
     share_out_staffs(state);
     pick_gates(state);
     choose_reader(state);
+    sample_each_gate(state);
     be_refused(state);
     return 0;
 }

@@ -6,13 +6,13 @@
 
 use std::error::Error;
 
-use gapyndura::index::sample;
+use gapyndura::index::{SampleError, sample, sample_stratified};
 use gapyndura::iterator::{choose, choose_stable, sample_fill};
 use gapyndura::slice::{partial_shuffle, shuffle};
 use gapyndura::{Refusal, WeightedIndex, Xoshiro256PlusPlus};
 
-/// The calls are made as version 7 has them; `CHANGELOG.md` says what a later one changes.
-const _: () = assert!(gapyndura::VERSION == 7);
+/// The calls are made as version 8 has them; `CHANGELOG.md` says what a later one changes.
+const _: () = assert!(gapyndura::VERSION == 8);
 
 /// The most words that a call may read: each that draws could else read on for ever.
 const BUDGET: u64 = 1000;
@@ -40,6 +40,15 @@ fn sample_in_place(rng: &mut Xoshiro256PlusPlus) -> Result<(), Box<dyn Error>> {
     let mut closings = [0; 20];
     let sampled = sample(rng, 50, 20, BUDGET, &mut closings, &mut [0; 50])?;
     print_list("in place", &closings[..sampled.count], sampled.words);
+    Ok(())
+}
+
+/// Of each of three gates as many closings as are wanted of it. Closings are numbered through: those of the last gate from 65 on.
+fn sample_each_gate(rng: &mut Xoshiro256PlusPlus) -> Result<(), SampleError> {
+    let mut closings = [0; 5];
+    let (lengths, amounts) = ([40, 25, 10], [3, 0, 2]);
+    let sampled = sample_stratified(rng, &lengths, &amounts, BUDGET, &mut closings, &mut [])?;
+    print_list("of each gate", &closings[..sampled.count], sampled.words);
     Ok(())
 }
 
@@ -92,13 +101,18 @@ fn choose_reader(rng: &mut Xoshiro256PlusPlus) -> Result<(), Box<dyn Error>> {
 /// Calls that are declined: nothing has changed but with 13, where the budget is read.
 fn be_refused(rng: &mut Xoshiro256PlusPlus) {
     let mut closings = [0; 200];
-    if let Err(error) = sample(rng, 3, 4, BUDGET, &mut closings, &mut []) {
-        let refusal = error.refusal;
-        println!(
-            "refused with {}: {refusal} (words read: {})",
-            refusal.number(),
-            error.so_far.words
-        );
+    for result in [
+        sample(rng, 3, 4, BUDGET, &mut closings, &mut []),
+        sample_stratified(rng, &[40, 25], &[3], BUDGET, &mut closings, &mut []),
+    ] {
+        if let Err(error) = result {
+            let refusal = error.refusal;
+            println!(
+                "refused with {}: {refusal} (words read: {})",
+                refusal.number(),
+                error.so_far.words
+            );
+        }
     }
     if let Err(error) = sample(rng, 1_000_000, 200, 7, &mut closings, &mut []) {
         let (refusal, so_far) = (error.refusal, error.so_far);
@@ -118,6 +132,7 @@ fn main() -> Result<(), Box<dyn Error>> {
     share_out_staffs(&mut rng)?;
     pick_gates(&mut rng)?;
     choose_reader(&mut rng)?;
+    sample_each_gate(&mut rng)?;
     be_refused(&mut rng);
     Ok(())
 }

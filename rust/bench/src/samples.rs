@@ -1,6 +1,8 @@
-//! Samples of indices. rand returns its indices in a vector of its own; the port is lent the same two slices again and again.
+//! Samples of indices. rand returns its indices in a vector of its own; the port is lent the same two slices again and again. A stratified
+//! sample is rand's in a loop over the parts, whose indices go to one vector that was made before, each with the start of its part added.
 
 use gapyndura::index;
+use rand::rngs::Xoshiro256PlusPlus;
 use reference::methods::{Method, due, scratch};
 
 use crate::numbers::grouped;
@@ -21,8 +23,23 @@ const SAMPLES: [(u32, u32); 11] = [
     (100_000, u32::MAX),
 ];
 
+/// The parts of a stratified sample, and the amount and the length of each.
+const PARTS: usize = 100;
+const PART: (u64, u64) = (10, 1000);
+
 pub fn cases() -> Vec<Case> {
-    SAMPLES.map(|(amount, length)| case(amount, length)).into()
+    let samples = SAMPLES.map(|(amount, length)| case(amount, length));
+    samples.into_iter().chain([stratified_case()]).collect()
+}
+
+fn stratified_case() -> Case {
+    let (amount, length) = PART;
+    let size = format!("{PARTS} parts, {amount} of {} each", grouped(length));
+    let entries = PARTS * amount as usize;
+    Case {
+        lent: Some(entries * size_of::<u32>()),
+        ..Case::new("`sample_stratified`", size, stratified)
+    }
 }
 
 fn case(amount: u32, length: u32) -> Case {
@@ -70,4 +87,38 @@ pub fn sides(amount: u32, length: u32) -> Sides {
             |(.., indices, _), _| indices.clone(),
         ),
     )
+}
+
+fn stratified() -> Sides {
+    let (amount, length) = PART;
+    let lengths = vec![length; PARTS];
+    let amounts = vec![amount; PARTS];
+    let indices = vec![0; PARTS * amount as usize];
+    Sides::new(
+        theirs(
+            (lengths.clone(), amounts.clone(), indices.clone()),
+            |rng, (lengths, amounts, indices)| join(rng, lengths, amounts, indices),
+            |(.., indices), ()| indices.clone(),
+        ),
+        ours(
+            (lengths, amounts, indices),
+            |rng, (lengths, amounts, indices)| {
+                let sampled =
+                    index::sample_stratified(rng, lengths, amounts, u64::MAX, indices, &mut []);
+                sampled.expect("the slices and the budget suffice")
+            },
+            |(.., indices), _| indices.clone(),
+        ),
+    )
+}
+
+/// rand's samples of the parts, one behind the other.
+fn join(rng: &mut Xoshiro256PlusPlus, lengths: &[u64], amounts: &[u64], indices: &mut Vec<u32>) {
+    indices.clear();
+    let mut start = 0;
+    for (&length, &amount) in lengths.iter().zip(amounts) {
+        let drawn = rand::seq::index::sample(rng, length as usize, amount as usize);
+        indices.extend(drawn.into_iter().map(|index| start + index as u32));
+        start += length as u32;
+    }
 }

@@ -1,5 +1,5 @@
-//! Long mixed runs: one generator carried through many samples, shuffles, fills, picks, choices, words and views, so that a generator
-//! left in the wrong place shows in all that follows.
+//! Long mixed runs: one generator carried through many samples, shuffles, fills, picks, choices, words, views and stratified samples, so
+//! that a generator left in the wrong place shows in all that follows.
 
 use reference::State;
 use reference::answer::digest;
@@ -8,6 +8,7 @@ use reference::choosing;
 use reference::filling::Filling;
 use reference::sampling::{End, Ended, Sampling};
 use reference::shuffling::{Outcome, Shuffling, Whole};
+use reference::stratifying::{EndParts, Stratifying};
 use reference::viewing::View;
 
 use crate::choose::{self, Choose};
@@ -18,6 +19,7 @@ use crate::port::PORT;
 use crate::sample::{self, Sample};
 use crate::shuffle::{self, PartialShuffle, Shuffle};
 use crate::slices::Lent;
+use crate::stratified::{self, SampleStratified};
 use crate::view::{self, IndexedSamples};
 use crate::weights;
 
@@ -49,8 +51,7 @@ pub struct Total {
 }
 
 impl Kind for LongRun {
-    const NAME: &'static str =
-        "samples, shuffles, fills, picks, choices, words and views, one generator for many";
+    const NAME: &'static str = "samples, shuffles, fills, picks, choices, words, views and stratified samples, one generator for many";
     const FAULTS: &'static [&'static str] = &[GENERATOR_STAYS];
     const PARTS: usize = 2;
     type Input = Input;
@@ -128,7 +129,7 @@ fn total(calls: &Calls, input: &Input) -> Total {
 
 /// A random call from this generator: how it ends, and the slices that it was lent.
 fn call(calls: &Calls, from: State, source: &mut Source) -> (Ended, Vec<Lent>) {
-    match source.below(9) {
+    match source.below(10) {
         0 => sampled(from, source, calls.sample),
         1 => {
             let call = Shuffling {
@@ -156,6 +157,7 @@ fn call(calls: &Calls, from: State, source: &mut Source) -> (Ended, Vec<Lent>) {
         5 => chosen(from, source, calls.choose),
         6 => chosen(from, source, calls.choose_stable),
         7 => ((calls.next_u32)(from), Vec::new()),
+        8 => stratified(from, source, calls.sample_stratified),
         _ => viewed(from, source, calls.view),
     }
 }
@@ -167,6 +169,16 @@ fn sampled(from: State, source: &mut Source, end: End) -> (Ended, Vec<Lent>) {
         ..Sample::random(source)
     };
     let answer = sample::Answer::new(&call, end);
+    (answer.ended, vec![answer.indices, answer.scratch])
+}
+
+/// How a stratified sample ends, and both slices.
+fn stratified(from: State, source: &mut Source, end: EndParts) -> (Ended, Vec<Lent>) {
+    let call = Stratifying {
+        from,
+        ..SampleStratified::random(source)
+    };
+    let answer = stratified::answer(&call, end);
     (answer.ended, vec![answer.indices, answer.scratch])
 }
 

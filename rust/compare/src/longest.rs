@@ -3,10 +3,11 @@
 use reference::draws::bounded;
 use reference::filling::{self, Filling};
 use reference::shuffling::{self, MOST_ITEMS, Shuffling, Whole};
+use reference::stratifying::Stratifying;
 use reference::{State, from_state};
 
 use crate::slices::without_memory;
-use crate::{fill, shuffle};
+use crate::{fill, shuffle, stratified};
 
 const FROM: State = [1, 2, 3, 4];
 
@@ -105,4 +106,31 @@ fn a_buffer_may_have_any_length() {
     assert_eq!(fill::port::sample_fill(&call, &[5, 6, 7], port), expected);
     assert_eq!((expected.count, expected.words), (3, 0));
     assert_eq!(port[..5], [5, 6, 7, 0, 0]);
+}
+
+/// Slices of so many entries that a length of 32 bits would be 0, or few. In the first call all is drawn; in the second a part is due in place
+/// and is longer than the scratch slice, though all indices that there are have room.
+#[test]
+fn the_slices_of_a_stratified_sample_may_have_any_length() {
+    let most = u64::from(u32::MAX);
+    for (lengths, amounts, scratch_len, number) in [
+        ([20, most - 20], [12, 3], 1 << 32, 0),
+        ([20, most - 20], [12, most - 20], most as usize - 21, 9),
+    ] {
+        let call = Stratifying {
+            from: FROM,
+            lengths: lengths.to_vec(),
+            amounts: amounts.to_vec(),
+            budget: u64::MAX,
+            indices_len: (1 << 32) + 1,
+            scratch_len,
+        };
+        let [rand, port] = [(); 2].map(|()| without_memory(call.indices_len));
+        let [rand_scratch, port_scratch] = [(); 2].map(|()| without_memory(scratch_len));
+        let expected = call.end(rand, rand_scratch);
+        assert_eq!(expected.number, number);
+        assert_eq!(stratified::port::end(&call, port, port_scratch), expected);
+        assert_eq!(port[..20], rand[..20]);
+        assert_eq!(port_scratch[..25], rand_scratch[..25]);
+    }
 }

@@ -20,6 +20,7 @@ mod sample;
 mod seeding;
 mod shuffle;
 mod slices;
+mod stratified;
 mod view;
 mod weights;
 mod word;
@@ -33,12 +34,13 @@ use kind::{Entry, Tally};
 use program::Program;
 
 /// The kinds of call at the C boundary, in the order in which they are run.
-const KINDS: [Entry; 18] = [
+const KINDS: [Entry; 19] = [
     Entry::of::<seeding::FromSeed>(),
     Entry::of::<seeding::SeedFromU64>(),
     Entry::of::<word::NextU32>(),
     Entry::of::<sample::Sample>(),
     Entry::of::<sample::choice::Choice>(),
+    Entry::of::<stratified::SampleStratified>(),
     Entry::of::<view::IndexedSamples>(),
     Entry::of::<shuffle::PartialShuffle>(),
     Entry::of::<shuffle::Shuffle>(),

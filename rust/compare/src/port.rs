@@ -2,7 +2,7 @@
 
 use reference::call::{Calls, RAND};
 
-use crate::{choose, fill, sample, shuffle, view, weights, word};
+use crate::{choose, fill, sample, shuffle, stratified, view, weights, word};
 
 /// The port's calls.
 pub const PORT: Calls = Calls {
@@ -15,6 +15,7 @@ pub const PORT: Calls = Calls {
     choose: choose::port::choose,
     choose_stable: choose::port::choose_stable,
     weights: weights::PORT,
+    sample_stratified: stratified::port::end,
     ..RAND
 };
 
@@ -28,7 +29,7 @@ mod tests {
     use super::PORT;
 
     /// How many lines of each call the list has at least.
-    const LEAST: [(Name, usize); 10] = [
+    const LEAST: [(Name, usize); 11] = [
         (Name::NextU32, 50),
         (Name::Sample, 100),
         (Name::IndexedSamples, 40),
@@ -39,6 +40,7 @@ mod tests {
         (Name::ChooseStable, 40),
         (Name::Pick, 80),
         (Name::Weight, 40),
+        (Name::SampleStratified, 60),
     ];
 
     #[test]

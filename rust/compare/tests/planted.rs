@@ -27,6 +27,23 @@ const OF_BUDGETS: [&str; 11] = [
     "fill-spent-counted",
 ];
 
+/// Faults of stratified samples.
+const OF_PARTS: [&str; 13] = [
+    "strata-budget-each",
+    "strata-start-amounts",
+    "strata-method-whole",
+    "strata-scratch-late",
+    "strata-empty-skipped",
+    "strata-spent-twice",
+    "strata-spent-unmoved",
+    "strata-same-draws",
+    "strata-sum-wraps",
+    "strata-scratch-moved",
+    "strata-17-late",
+    "strata-count-last",
+    "strata-tail-cleared",
+];
+
 /// A program that gives back the lines behind the class.
 const ECHO: &str = concat!(env!("CARGO_MANIFEST_DIR"), "/tests/echo");
 
@@ -60,8 +77,8 @@ fn a_planted_fault_is_told_and_ends_with_status_1() {
 
 /// Every kind of call that can have such a fault tells of it.
 #[test]
-fn a_fault_of_budgets_is_told_by_each_kind_that_has_it() {
-    for fault in OF_BUDGETS {
+fn a_fault_of_budgets_or_of_parts_is_told_by_each_kind_that_has_it() {
+    for fault in OF_BUDGETS.into_iter().chain(OF_PARTS) {
         let text = told(fault, "1");
         let kinds = text.matches(" calls\n").count();
         let found = text.matches("the smallest input found").count();
@@ -88,10 +105,11 @@ fn a_program_that_differs_is_told_with_the_smallest_lines() {
         "shuffle 0 0 0",
         "pick 0 0 0 0 0 0",
         "choose 0 0 0 0",
+        "sample_stratified 0 0 0 0 0",
     ] {
         assert!(text.contains(&format!("\"{line}\"")), "{line}: {text}");
     }
-    assert!(text.ends_with("85 calls, 85 differ\n"), "{text}");
+    assert!(text.ends_with("90 calls, 90 differ\n"), "{text}");
 }
 
 /// rand's own programs of draw books stand in for the port's.

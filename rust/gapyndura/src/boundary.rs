@@ -20,6 +20,19 @@ unsafe extern "C" {
         scratch_len: usize,
         out: &mut [u64; 2],
     ) -> u32;
+    pub fn gapyndura_sample_stratified(
+        state: &mut [u64; 4],
+        lengths: *const u64,
+        lengths_len: usize,
+        amounts: *const u64,
+        amounts_len: usize,
+        budget: u64,
+        indices: *mut u32,
+        indices_len: usize,
+        scratch: *mut u32,
+        scratch_len: usize,
+        out: &mut [u64; 2],
+    ) -> u32;
     pub fn gapyndura_partial_shuffle(
         state: &mut [u64; 4],
         items: *mut u32,

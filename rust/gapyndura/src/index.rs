@@ -1,9 +1,9 @@
-//! Samples of distinct indices, as in rand's module `index`.
+//! Samples of distinct indices, as in rand's module `index`, and such samples of the parts of a whole.
 
 use core::error::Error;
 use core::fmt;
 
-use crate::boundary::gapyndura_sample;
+use crate::boundary::{gapyndura_sample, gapyndura_sample_stratified};
 use crate::{Refusal, Xoshiro256PlusPlus};
 
 /// What a sample took and gave.
@@ -136,6 +136,12 @@ pub fn sample(
             &mut out,
         )
     };
+    ended(number, out)
+}
+
+/// How a sample ends that a function of the header has answered so.
+#[inline]
+fn ended(number: u32, out: [u64; 2]) -> Result<Sampled, SampleError> {
     let [words, count] = out;
     let sampled = Sampled {
         // No more than the slice has entries.
@@ -149,4 +155,89 @@ pub fn sample(
         refusal: Refusal::from_number(number),
         so_far: sampled,
     })
+}
+
+/// Draws a stratified sample: of each part of a whole as many distinct indices as are wanted of it, the parts one behind the other, to
+/// the front of `indices`.
+///
+/// Part i has the `lengths[i]` indices from its start on, which is the sum of the lengths before it; `amounts[i]` of them are wanted.
+/// `budget` is the most words that the call may read, for all parts together.
+///
+/// Each part in turn is a [`sample`] with its own length and amount, and so by the method that these choose, from the generator that the
+/// part before has left and with what is left of the budget. The start is then added to the indices drawn. So they are those of rand's
+/// `seq::index::sample` in a loop over the parts, and so are the words. A part of which none is wanted reads no word, and its length counts
+/// for the starts behind it. There may be no parts: then no word is read.
+///
+/// All parts use the same `scratch`, to which nothing is added: each part by the method in place leaves there what its sample does, over
+/// what the parts before have left. Entries of `indices` past the sum of the amounts never change.
+///
+/// ```
+/// use gapyndura::Xoshiro256PlusPlus;
+/// use gapyndura::index::sample_stratified;
+///
+/// let mut rng = Xoshiro256PlusPlus::seed_from_u64(1);
+/// let mut indices = [0; 6];
+/// // Two of the indices from 0 to 99, none of the fifty behind them, and four of the ten from 150 to 159.
+/// let sampled = sample_stratified(&mut rng, &[100, 50, 10], &[2, 0, 4], 1000, &mut indices, &mut [])?;
+/// assert_eq!((sampled.count, sampled.words), (6, 6));
+/// assert!(indices[..2].iter().all(|index| (0..100).contains(index)));
+/// assert!(indices[2..].iter().all(|index| (150..160).contains(index)));
+/// # Ok::<(), gapyndura::index::SampleError>(())
+/// ```
+///
+/// # Errors
+///
+/// The first of these that applies to any part: [`ZeroState`](Refusal::ZeroState); [`PartsMismatch`](Refusal::PartsMismatch), for lists of
+/// unequal count, or lengths that add up to more than 2^32 - 1; [`AmountExceedsLength`](Refusal::AmountExceedsLength);
+/// [`SliceTooShort`](Refusal::SliceTooShort), for fewer entries of `indices` than the sum of the amounts;
+/// [`ScratchTooShort`](Refusal::ScratchTooShort), for a part for which the method in place is due and which is longer than `scratch`; and
+/// [`BudgetExhausted`](Refusal::BudgetExhausted), where `budget` words are read and one more is needed. With the last of them exactly
+/// `budget` words are read, and both slices are left as they then are: `indices` has the samples of all finished parts, and behind them
+/// what [`sample`] leaves of the part that is not finished, its start added. The count takes in both.
+///
+/// The others are settled for all parts before the first word: no word is read and no slice changed.
+///
+/// ```
+/// use gapyndura::{Refusal, Xoshiro256PlusPlus};
+/// use gapyndura::index::sample_stratified;
+///
+/// let mut rng = Xoshiro256PlusPlus::seed_from_u64(1);
+/// let mut indices = [9; 6];
+/// let error = sample_stratified(&mut rng, &[100, 10], &[2, 4], 3, &mut indices, &mut []).unwrap_err();
+/// assert_eq!((error.refusal, error.so_far.words), (Refusal::BudgetExhausted, 3));
+/// // The two of the first part, and one of the second.
+/// assert_eq!(error.so_far.count, 3);
+/// assert!((100..110).contains(&indices[2]));
+/// assert_eq!(indices[3..], [9; 3]);
+///
+/// let error = sample_stratified(&mut rng, &[100, 10], &[2], 3, &mut indices, &mut []).unwrap_err();
+/// assert_eq!((error.refusal, error.so_far.words), (Refusal::PartsMismatch, 0));
+/// ```
+#[inline]
+pub fn sample_stratified(
+    rng: &mut Xoshiro256PlusPlus,
+    lengths: &[u64],
+    amounts: &[u64],
+    budget: u64,
+    indices: &mut [u32],
+    scratch: &mut [u32],
+) -> Result<Sampled, SampleError> {
+    let mut out = [0; 2];
+    // SAFETY: as in `sample`; the two lists are only read.
+    let number = unsafe {
+        gapyndura_sample_stratified(
+            rng.state_mut(),
+            lengths.as_ptr(),
+            lengths.len(),
+            amounts.as_ptr(),
+            amounts.len(),
+            budget,
+            indices.as_mut_ptr(),
+            indices.len(),
+            scratch.as_mut_ptr(),
+            scratch.len(),
+            &mut out,
+        )
+    };
+    ended(number, out)
 }

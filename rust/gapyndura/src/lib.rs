@@ -32,6 +32,7 @@
 //! | [`Xoshiro256PlusPlus::from_seed`], [`seed_from_u64`](Xoshiro256PlusPlus::seed_from_u64) | `SeedableRng` for `Xoshiro256PlusPlus`, and for `SmallRng` on a 64-bit target | no word |
 //! | [`Xoshiro256PlusPlus::next_u32`] | `Rng::next_u32` | one word |
 //! | [`index::sample`] | `seq::index::sample` | `budget` words |
+//! | [`index::sample_stratified`] | `seq::index::sample` of each part in turn, its start added to the indices | `budget` words |
 //! | [`slice::partial_shuffle`] | `SliceRandom::partial_shuffle` | `budget` words |
 //! | [`slice::shuffle`] | `SliceRandom::shuffle` | `budget` words |
 //! | [`slice::sample`] | `IndexedRandom::sample` | `budget` words |
@@ -89,7 +90,7 @@ pub use xoshiro256plusplus::Xoshiro256PlusPlus;
 
 /// The version, which is `GAPYNDURA_VERSION` of the header: 1 for the base, and one more with each request.
 /// `CHANGELOG.md` in the repository says what a caller has to change.
-pub const VERSION: u32 = 7;
+pub const VERSION: u32 = 8;
 
 #[cfg(test)]
 mod tests {

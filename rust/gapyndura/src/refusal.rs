@@ -4,7 +4,7 @@ use core::error::Error;
 use core::fmt;
 
 /// Why a call is declined: the table of document 01, by number, and what document 02 adds to it. [`Display`](fmt::Display) says it in
-/// words. The last three are those of a draw book, which no call of this package reads: none answers them.
+/// words. Those of numbers 14, 15 and 16 are of a draw book, which no call of this package reads: none answers them.
 ///
 /// A call that may draw more than one word has a budget, the most words that it may read. Its error also says how many words were
 /// read, and becomes a refusal where that is all that is wanted. A call that has no budget answers a refusal alone: it has then read
@@ -64,10 +64,12 @@ pub enum Refusal {
     UnknownKind,
     /// The bodies of a draw book do not lie as its contents and their kinds say, or it is too long.
     LayoutMismatch,
+    /// The lists of a stratified sample differ in count, or its lengths add up to more than 2^32 - 1.
+    PartsMismatch,
 }
 
 /// All causes, by their numbers from 1 on.
-const ALL: [Refusal; 16] = [
+const ALL: [Refusal; 17] = [
     Refusal::AmountExceedsLength,
     Refusal::NoWeights,
     Refusal::Overflow,
@@ -84,10 +86,11 @@ const ALL: [Refusal; 16] = [
     Refusal::ContentsCutShort,
     Refusal::UnknownKind,
     Refusal::LayoutMismatch,
+    Refusal::PartsMismatch,
 ];
 
 impl Refusal {
-    /// The cause's number, as `include/gapyndura.h` has it: 1 to 16.
+    /// The cause's number, as `include/gapyndura.h` has it: 1 to 17.
     #[must_use]
     pub const fn number(self) -> u32 {
         self as u32
@@ -126,6 +129,7 @@ impl fmt::Display for Refusal {
             Self::ContentsCutShort => "the book's contents are cut short or of more than 64 jobs",
             Self::UnknownKind => "a job of the book is of an unknown kind",
             Self::LayoutMismatch => "the book's bodies do not lie as they must, or it is too long",
+            Self::PartsMismatch => "the lists of parts differ in count, or the whole is too long",
         })
     }
 }
@@ -140,13 +144,14 @@ mod tests {
     use std::string::ToString;
 
     #[test]
-    fn numbers_run_from_1_to_16() {
+    fn numbers_run_from_1_to_17() {
         for (number, refusal) in (1..).zip(ALL) {
             assert_eq!(refusal.number(), number);
             assert_eq!(Refusal::from_number(number), refusal);
         }
         assert_eq!(Refusal::BudgetExhausted.number(), 13);
         assert_eq!(Refusal::LayoutMismatch.number(), 16);
+        assert_eq!(Refusal::PartsMismatch.number(), 17);
     }
 
     /// A word of each cause, by its number: texts that are exchanged, here and in the C header alike, lack it.
@@ -169,6 +174,7 @@ mod tests {
             "contents",
             "unknown kind",
             "bodies",
+            "differ in count",
         ];
         assert_eq!(words.len(), ALL.len());
         for (refusal, word) in ALL.into_iter().zip(words) {

@@ -10,7 +10,7 @@ use reference::states::{LONG_DRAWS, at_last_draw, giving_three};
 use reference::words::{bounded, giving, reading, rejecting};
 use reference::{State, some_state};
 
-use crate::{choices, run, samples, shuffles, views, weights, wrong};
+use crate::{choices, run, samples, shuffles, stratified, views, weights, wrong};
 
 /// The bounds that are drawn below: the least, powers of two, their neighbours, and the largest.
 const BOUNDS: [u32; 8] = [1, 2, 3, 6, 1 << 31, (1 << 31) + 1, u32::MAX - 1, u32::MAX];
@@ -82,6 +82,7 @@ pub fn sections() -> Vec<Section> {
     sections.extend(weights::sections());
     sections.extend(choices::sections());
     sections.extend(views::sections());
+    sections.extend(stratified::sections());
     sections.push(run::section());
     sections.extend(wrong::sections());
     sections

@@ -8,6 +8,7 @@ mod contents;
 mod run;
 mod samples;
 mod shuffles;
+mod stratified;
 mod views;
 mod weights;
 mod wrong;

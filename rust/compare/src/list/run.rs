@@ -8,6 +8,7 @@ use reference::filling::Filling;
 use reference::sampling::Sampling;
 use reference::shuffling::{Shuffling, Whole};
 use reference::some_state;
+use reference::stratifying::Stratifying;
 use reference::weights_line::{Changed, Picking};
 
 use crate::contents::{Section, chained};
@@ -30,7 +31,7 @@ fn call(from: State, number: u64) -> Call {
     let amount = number * 11 % (length + 1);
     let budget = u64::MAX;
     let len = length as usize;
-    match number % 12 {
+    match number % 13 {
         0 => Call::Sample(sampling(from, length, amount)),
         1 => Call::IndexedSamples(sampling(from, length, amount)),
         2 => Call::PartialShuffle(shuffling(from, len, amount, number)),
@@ -48,10 +49,11 @@ fn call(from: State, number: u64) -> Call {
             let r = u32::MAX / (number as u32 + 1);
             Call::RandomRange(Bounded { from, r, budget })
         }
-        _ => {
+        11 => {
             let r = (1 << 31) + number as u32;
             Call::UniformInt(Bounded { from, r, budget })
         }
+        _ => Call::SampleStratified(stratifying(from, length, amount, number)),
     }
 }
 
@@ -63,6 +65,19 @@ fn sampling(from: State, length: u64, amount: u64) -> Sampling {
         budget: amount * 10 % 97,
         indices_len: amount as usize,
         scratch_len: length as usize,
+    }
+}
+
+/// Three parts, of the last of which none is wanted where it has no length.
+fn stratifying(from: State, length: u64, amount: u64, number: u64) -> Stratifying {
+    let last = number % 5;
+    Stratifying {
+        from,
+        lengths: vec![length, 13, last],
+        amounts: vec![amount, number % 14, last.min(2)],
+        budget: few(number),
+        indices_len: amount as usize + 15,
+        scratch_len: length.max(13) as usize,
     }
 }
 

@@ -5,7 +5,7 @@ use reference::line::{ROOM, call};
 use crate::contents::Section;
 
 /// Lines that are no calls: by their blanks, names, generators, counts of numbers, numbers, and numbers that their calls do not take.
-const WRONG: [&str; 75] = [
+const WRONG: [&str; 81] = [
     // blanks and what is none
     " seed 1",
     "seed 1 ",
@@ -27,6 +27,7 @@ const WRONG: [&str; 75] = [
     "1 seed",
     "next_u 1",
     "weighted_index 1 2 3",
+    "stratified 1 9 3 0 0",
     "random_range_within 1 6 9",
     "lent_words 1 3",
     " # a comment that does not begin the line",
@@ -70,6 +71,8 @@ const WRONG: [&str; 75] = [
     "choose 1 1 9 2",
     "pick 1 1 9 2 0",
     "weight 1 0 2 0",
+    "sample_stratified 1 9 3 0",
+    "sample_stratified 1 9 3 0 2 5",
     // numbers
     "shuffle 1 -1 9",
     "shuffle 1 +1 9",
@@ -77,6 +80,7 @@ const WRONG: [&str; 75] = [
     "shuffle 1 1 18446744073709551616",
     "partial_shuffle 1 3 36893488147419103233 9",
     "sample 1 10 3 1.5 3 0",
+    "sample_stratified 1 9 3 0 1 18446744073709551616 0",
     // what the calls do not take
     "random_range 1 0 9",
     "random_range 1 4294967296 9",
@@ -87,10 +91,12 @@ const WRONG: [&str; 75] = [
     "pick 1 1 9 2 1 1 0",
     "pick 1 1 9 2 0 0 1 4294967296",
     "weight 1 0 2 1 1 0 4294967296 1",
+    "sample_stratified 1 9 3 0 3 5 5",
+    "sample_stratified 1 9 3 0 18446744073709551615 5 1",
 ];
 
 /// Good lines that are next to wrong ones: zeros before numbers, places and numbers at their greatest, lists of no entries.
-const GOOD: [&str; 12] = [
+const GOOD: [&str; 16] = [
     "seed 007",
     "seed 00000000000000000000000000000000000000000000000000000000000001",
     "random_range 00 06 09",
@@ -103,6 +109,10 @@ const GOOD: [&str; 12] = [
     "choose 1 0 9 2 0",
     "pick 1 0 0 0 0 0",
     "weight zero 0 0 1 0 18446744073709551615 1",
+    "sample_stratified 1 0 0 0 0",
+    "sample_stratified 1 09 03 00 2 05 5 01 2",
+    "sample_stratified 1 9 3 0 0 18446744073709551615",
+    "sample_stratified 1 18446744073709551615 3 0 2 5 18446744073709551615",
 ];
 
 /// All these lines of the list.
@@ -145,6 +155,8 @@ fn rooms() -> Section {
             format!("pick 1 1 9 {len} 0 0 2 0 3"),
             format!("pick zero {len} 9 2 0 0 2 0 3"),
             format!("weight 1 1 {len} 0 0 2 5"),
+            format!("sample_stratified 1 9 {len} 0 2 9 5 2 1"),
+            format!("sample_stratified 1 9 3 {len} 2 9 5 2 1"),
         ];
         assert!(asked.iter().all(|line| call(line).is_some() == is_good));
         lines.extend(asked);

@@ -21,6 +21,7 @@ use crate::kind::Kind;
 use crate::sample::Sample;
 use crate::seeding::{FromSeed, SeedFromU64};
 use crate::shuffle::{self, PartialShuffle, Shuffle};
+use crate::stratified::SampleStratified;
 use crate::view::IndexedSamples;
 use crate::weights;
 
@@ -94,6 +95,7 @@ fn call(name: Name, source: &mut Source) -> Call {
         Name::ChooseStable => Call::ChooseStable(choice(source)),
         Name::Pick => Call::Pick(picking(source)),
         Name::Weight => Call::Weight(looking(source)),
+        Name::SampleStratified => Call::SampleStratified(SampleStratified::random(source)),
     }
 }
 
@@ -271,6 +273,7 @@ mod tests {
             Name::Choose | Name::ChooseStable => &[11, 12, 13],
             Name::Pick => &[2, 3, 4, 5, 6, 8, 12, 13],
             Name::Weight => &[2, 3, 4, 5, 6, 8],
+            Name::SampleStratified => &[1, 8, 9, 12, 13, 17],
         }
     }
 
@@ -279,7 +282,7 @@ mod tests {
     fn random_lines_have_every_answer() {
         for name in Name::ALL {
             let mut source = Source::new(1);
-            let mut numbers = [0; 14];
+            let mut numbers = [0; 18];
             for _ in 0..5000 {
                 let line = line(name, &mut source);
                 let call = Call::of(&line, ROOMS);

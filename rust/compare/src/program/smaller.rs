@@ -13,6 +13,7 @@ use super::random::is_endless;
 use crate::choose::{self, Choose};
 use crate::inputs::{smaller, smaller_states};
 use crate::kind::Kind;
+use crate::stratified;
 use crate::weights::lists;
 
 /// The most words of a line of which each is looked at.
@@ -91,7 +92,7 @@ fn shorter(text: &str) -> Vec<String> {
     texts
 }
 
-/// A long line with the front or the back of its list, without its last entry, or from the first seed.
+/// A long line with the front or the back of its list, without its last entry or some parts, or from the first seed.
 fn halved(line: &Line) -> Vec<Line> {
     let generator = Generator::Number(0);
     let seeded = Line {
@@ -115,6 +116,11 @@ fn halved(line: &Line) -> Vec<Line> {
                     ..call.clone()
                 })
             }),
+            Call::SampleStratified(call) => {
+                let mut calls = stratified::fewer(call);
+                calls.truncate(FEW);
+                each(calls, Call::SampleStratified)
+            }
             _ => Vec::new(),
         };
         lines.extend(named(line, halves));
@@ -203,7 +209,7 @@ fn generators(generator: Generator) -> Box<dyn Iterator<Item = Generator>> {
     }
 }
 
-/// Lines with smaller lists of hints, places and weights. The generator is named as before.
+/// Lines with smaller lists of hints, places, weights and parts. The generator is named as before.
 fn structured(line: &Line) -> Vec<Line> {
     let calls = match unbounded(line) {
         Some(Call::Choose(call)) => each(choices(&call), Call::Choose),
@@ -220,6 +226,10 @@ fn structured(line: &Line) -> Vec<Line> {
                 ..call.clone()
             })
         }),
+        Some(Call::SampleStratified(call)) => {
+            let calls = [stratified::fewer(&call), stratified::lists(&call)].concat();
+            each(calls, Call::SampleStratified)
+        }
         _ => Vec::new(),
     };
     named(line, calls)
@@ -318,6 +328,11 @@ mod tests {
             (Name::Shuffle, "shuffle-moves-nothing", "shuffle 0 2 1"),
             (Name::Weight, "weight-beyond", "weight 0 1 0 0 0 1"),
             (Name::Choose, "answer-value-more", "choose 0 0 0 0"),
+            (
+                Name::SampleStratified,
+                "strata-empty-skipped",
+                "sample_stratified 0 1 1 0 2 1 1 0 1",
+            ),
         ] {
             let mut source = Source::new(1);
             let lines = (0..).map(|_| random::line(name, &mut source).to_string());

@@ -14,6 +14,8 @@ use crate::sample_line::{self, sampled, viewed};
 use crate::sampling::{End, Sampling};
 use crate::shuffle_line::{Part, Parting, filled, head, shuffled, tail};
 use crate::shuffling::{PartialShuffle, Shuffle, Shuffling, Whole, partial_shuffle, shuffle};
+use crate::stratified_line;
+use crate::stratifying::{EndParts, Stratifying};
 use crate::viewing::{NextU32, View, next_u32, view};
 use crate::weighing;
 use crate::weights_line::{Looking, Picking};
@@ -34,6 +36,7 @@ pub struct Calls {
     pub choose: Choose,
     pub choose_stable: Choose,
     pub weights: weighing::Calls,
+    pub sample_stratified: EndParts,
 }
 
 /// rand's calls.
@@ -51,6 +54,7 @@ pub const RAND: Calls = Calls {
     choose,
     choose_stable,
     weights: weighing::RAND,
+    sample_stratified: Stratifying::end,
 };
 
 /// What a line asks for.
@@ -78,6 +82,7 @@ pub enum Call {
     ChooseStable(Choosing),
     Pick(Picking),
     Weight(Looking),
+    SampleStratified(Stratifying),
 }
 
 impl Call {
@@ -114,6 +119,9 @@ impl Call {
             Name::ChooseStable => Self::ChooseStable(Choosing::read(from, numbers, room)?),
             Name::Pick => Self::Pick(Picking::read(from, numbers, room)?),
             Name::Weight => Self::Weight(Looking::read(from, numbers, room)?),
+            Name::SampleStratified => {
+                Self::SampleStratified(stratified_line::read(from, numbers, room)?)
+            }
         })
     }
 
@@ -127,13 +135,14 @@ impl Call {
         };
         let parts = |name, part: &Part| line(name, part.from, vec![part.len as u64, part.at]);
         let draw = |name, call: &Bounded| line(name, call.from, vec![call.r.into(), call.budget]);
+        let sample = |name, call: &Sampling| line(name, call.from, sample_line::numbers(call));
         match self {
             Self::Seed(from) => line(Name::Seed, *from, vec![]),
             Self::NextU64(from) => line(Name::NextU64, *from, vec![]),
             Self::NextU32(from) => line(Name::NextU32, *from, vec![]),
             Self::RandomRange(call) => draw(Name::RandomRange, call),
             Self::UniformInt(call) => draw(Name::UniformInt, call),
-            Self::Sample(call) => line(Name::Sample, call.from, sample_line::numbers(call)),
+            Self::Sample(call) => sample(Name::Sample, call),
             Self::PartialShuffle(call) => {
                 let numbers = vec![call.len as u64, call.amount, call.budget];
                 line(Name::PartialShuffle, call.from, numbers)
@@ -148,13 +157,15 @@ impl Call {
                 let numbers = [call.items_len as u64, call.buf_len as u64, call.budget];
                 line(Name::SampleFill, call.from, numbers.to_vec())
             }
-            Self::IndexedSamples(call) => {
-                line(Name::IndexedSamples, call.from, sample_line::numbers(call))
-            }
+            Self::IndexedSamples(call) => sample(Name::IndexedSamples, call),
             Self::Choose(call) => line(Name::Choose, call.from, call.numbers()),
             Self::ChooseStable(call) => line(Name::ChooseStable, call.from, call.numbers()),
             Self::Pick(call) => line(Name::Pick, call.from, call.numbers()),
             Self::Weight(call) => line(Name::Weight, call.from, call.numbers()),
+            Self::SampleStratified(call) => {
+                let numbers = stratified_line::numbers(call);
+                line(Name::SampleStratified, call.from, numbers)
+            }
         }
     }
 
@@ -173,7 +184,9 @@ impl Call {
             Self::NextU32(from) => one_value(&(calls.next_u32)(*from)),
             Self::RandomRange(call) => call.random_range(&calls.draws),
             Self::UniformInt(call) => call.uniform_int(&calls.draws),
-            Self::Sample(call) => sampled(call, calls.sample),
+            Self::Sample(call) => sampled(call.indices_len, call.scratch_len, |i, s| {
+                (calls.sample)(call, i, s)
+            }),
             Self::PartialShuffle(call) => {
                 shuffled(call.len, |items| (calls.partial_shuffle)(call, items))
             }
@@ -186,6 +199,9 @@ impl Call {
             Self::ChooseStable(call) => call.answer(calls.choose_stable),
             Self::Pick(call) => call.answer(&calls.weights),
             Self::Weight(call) => call.answer(&calls.weights),
+            Self::SampleStratified(call) => sampled(call.indices_len, call.scratch_len, |i, s| {
+                (calls.sample_stratified)(call, i, s)
+            }),
         }
     }
 }

@@ -25,6 +25,8 @@ pub mod sampling;
 pub mod shuffle_line;
 pub mod shuffling;
 pub mod states;
+pub mod stratified_line;
+pub mod stratifying;
 pub mod viewing;
 pub mod weighing;
 pub mod weights_line;

@@ -57,11 +57,12 @@ pub enum Name {
     ChooseStable,
     Pick,
     Weight,
+    SampleStratified,
 }
 
 impl Name {
     /// All of them, in their order, with their words.
-    const WORDS: [(Self, &str); 16] = [
+    const WORDS: [(Self, &str); 17] = [
         (Self::Seed, "seed"),
         (Self::NextU64, "next_u64"),
         (Self::NextU32, "next_u32"),
@@ -78,6 +79,7 @@ impl Name {
         (Self::ChooseStable, "choose_stable"),
         (Self::Pick, "pick"),
         (Self::Weight, "weight"),
+        (Self::SampleStratified, "sample_stratified"),
     ];
 
     /// All of them, in their order.
@@ -214,6 +216,9 @@ mod tests {
             "pick 1 2 9 5 0 0 4294967296",
             "weight 1 2 65538 0 0 1",
             "weight 1 2 5 18446744073709551615 1 1",
+            "sample_stratified 1 9 3 0",
+            "sample_stratified 1 9 3 0 2 5",
+            "sample_stratified 1 9 65538 0 0",
         ] {
             assert!(call(text).is_none(), "{text}");
             assert_eq!(answer(text), "wrong");
@@ -222,7 +227,12 @@ mod tests {
 
     #[test]
     fn lines_with_all_the_room_are_calls() {
-        for text in ["seed 01", "shuffle 1 65537 9", "choose 1 65536 9 1"] {
+        for text in [
+            "seed 01",
+            "shuffle 1 65537 9",
+            "choose 1 65536 9 1",
+            "sample_stratified 1 9 65537 65537 0",
+        ] {
             assert!(call(text).is_some(), "{text}");
         }
         let numbers = |count: usize| format!("weight 1 0 0 0 0{}", " 7".repeat(count - 4));

@@ -1,9 +1,9 @@
-//! The lines that ask for a sample or a view, `NAME G LENGTH AMOUNT BUDGET INDICES SCRATCH`, and what they answer.
+//! The lines that ask for a sample or a view, `NAME G LENGTH AMOUNT BUDGET INDICES SCRATCH`, and what they answer; and what any sample does.
 
 use crate::State;
 use crate::answer::Answer;
 use crate::number::length;
-use crate::sampling::{End, Sampling};
+use crate::sampling::{Ended, Sampling};
 use crate::viewing::{View, items};
 
 /// What is in every entry of the slices that a call of a line is lent to write.
@@ -32,12 +32,16 @@ pub fn read(from: State, numbers: &[u64], room: usize) -> Option<Sampling> {
     })
 }
 
-/// The answer to a sample that `end` ends: the indices written, and the digest of both slices.
-#[must_use]
-pub fn sampled(call: &Sampling, end: End) -> Answer {
-    let mut indices = vec![CANARY; call.indices_len];
-    let mut scratch = vec![CANARY; call.scratch_len];
-    let ended = end(call, &mut indices, &mut scratch);
+/// The answer to a sample with so many entries of indices and of scratch that `end` ends: the indices written, and the digest of both
+/// slices.
+pub fn sampled(
+    indices_len: usize,
+    scratch_len: usize,
+    end: impl FnOnce(&mut [u32], &mut [u32]) -> Ended,
+) -> Answer {
+    let mut indices = vec![CANARY; indices_len];
+    let mut scratch = vec![CANARY; scratch_len];
+    let ended = end(&mut indices, &mut scratch);
     let written = &indices[..ended.count as usize];
     Answer::new(&ended, &[&indices, &scratch], written)
 }
@@ -71,7 +75,9 @@ mod tests {
 
     #[test]
     fn a_sample_has_its_indices_and_both_slices() {
-        let answer = sampled(&ONE, Sampling::end);
+        let answer = sampled(ONE.indices_len, ONE.scratch_len, |indices, scratch| {
+            ONE.end(indices, scratch)
+        });
         assert_eq!((answer.number, answer.words), (0, 1));
         assert_eq!(answer.values, [0]);
         assert_eq!(answer.digest, digest(&[&[0, u32::MAX], &[u32::MAX]]));

@@ -9,9 +9,14 @@
 //!
 //! So the first and the last word after a step give the first word before it, and the output there gives the last one.
 
+use std::ops::RangeInclusive;
+
 use rand::Rng;
+use rand::rngs::Xoshiro256PlusPlus;
 
 use crate::draws::bounded;
+use crate::methods::by_rand;
+use crate::stratifying::Part;
 use crate::{State, from_state, state};
 
 /// A generator whose first three words are these. What is left free is filled from `salt`.
@@ -105,9 +110,6 @@ fn step_back([t0, t1, t2, t3]: State) -> State {
 /// A generator with which the bounded draws below these numbers are made one after another so that the last of them starts with these
 /// three words. What is left free is filled from `salt`.
 ///
-/// How many words the draws before it read is seen in the words themselves, which come of the three: of each number of words that
-/// they may read it is tried whether they do, and then another salt.
-///
 /// # Panics
 ///
 /// If there is no draw, or no generator is found.
@@ -115,28 +117,75 @@ fn step_back([t0, t1, t2, t3]: State) -> State {
 pub fn at_last_draw(bounds: &[u32], words: [u32; 3], salt: u64) -> State {
     let (_, earlier) = bounds.split_last().expect("a draw");
     let count = earlier.len() as u64;
+    let draws = |rng: &mut Xoshiro256PlusPlus| {
+        for &r in earlier {
+            bounded(rng, r);
+        }
+    };
+    let found = leading_to(
+        |salt| giving_three(words, salt),
+        salt,
+        count..=2 * count,
+        draws,
+    );
+    found.expect("a generator for these draws")
+}
+
+/// A generator from which `draws` lead to the state that `at` gives for a salt, this one or another; if one is found.
+///
+/// How many words the draws read is seen in the words themselves, which come of that state: of each number of words that they may
+/// read it is tried whether they do, and then another salt.
+#[must_use]
+pub fn leading_to(
+    at: impl Fn(u64) -> State,
+    salt: u64,
+    reads: RangeInclusive<u64>,
+    draws: impl Fn(&mut Xoshiro256PlusPlus),
+) -> Option<State> {
     let salts =
         (0..100).map(|turn: u64| salt.wrapping_add(turn.wrapping_mul(0x9e37_79b9_7f4a_7c15)));
     let mut starts = salts.filter(|&salt| salt != 0).flat_map(|salt| {
-        let at = giving_three(words, salt);
-        (count..=2 * count).map(move |read| (at, before(at, read)))
+        let at = at(salt);
+        reads.clone().map(move |read| (at, before(at, read)))
     });
     let found = starts.find(|&(at, start)| {
         let mut rng = from_state(start);
-        for &r in earlier {
-            bounded(&mut rng, r);
-        }
+        draws(&mut rng);
         state(&rng) == at
     });
-    found.expect("a generator for these draws").1
+    found.map(|(_, start)| start)
+}
+
+/// A generator with which samples of these parts, and bounded draws below these numbers behind them, lead to a state that `at` gives for a
+/// salt, this one or another; and the words that they read. No more words than four for each draw are tried.
+#[must_use]
+pub fn behind_parts(
+    at: impl Fn(u64) -> State,
+    salt: u64,
+    parts: &[Part],
+    bounds: &[u32],
+) -> Option<(State, u64)> {
+    let draws = |rng: &mut Xoshiro256PlusPlus| {
+        let parts = parts.iter();
+        let samples = parts.map(|&(length, amount)| by_rand(rng, length as u32, amount as u32));
+        let words: u64 = samples.map(|sample| sample.words()).sum();
+        words + bounds.iter().map(|&r| bounded(rng, r).words).sum::<u64>()
+    };
+    let amounts: u64 = parts.iter().map(|&(_, amount)| amount).sum();
+    let least = amounts + bounds.len() as u64;
+    let from = leading_to(at, salt, least..=4 * least, |rng| {
+        draws(rng);
+    })?;
+    Some((from, draws(&mut from_state(from))))
 }
 
 #[cfg(test)]
 mod tests {
     use rand::Rng;
 
-    use super::{LONG_DRAWS, at_last_draw, before, giving_three};
+    use super::{LONG_DRAWS, at_last_draw, before, behind_parts, giving_three};
     use crate::draws::bounded;
+    use crate::methods::by_rand;
     use crate::{from_state, some_state, state};
 
     #[test]
@@ -193,6 +242,27 @@ mod tests {
                     assert_eq!([(); 3].map(|()| rng.next_u32()), words, "{r} {count}");
                 }
             }
+        }
+    }
+
+    /// Behind parts by each method, of which one drops half of its words, and draws of the part itself.
+    #[test]
+    fn a_later_part_has_the_words() {
+        let words = [1 << 31, 5, 6];
+        let parts = [(20, 5), (40, 20), (44_010, 163), ((1 << 31) + 1, 163)];
+        for count in 0..=parts.len() {
+            let parts = &parts[..count];
+            let found = behind_parts(|salt| giving_three(words, salt), 1, parts, &[6, 7]);
+            let (from, read) = found.expect("a generator");
+            let mut rng = from_state(from);
+            for &(length, amount) in parts {
+                by_rand(&mut rng, length as u32, amount as u32);
+            }
+            for r in [6, 7] {
+                bounded(&mut rng, r);
+            }
+            assert_eq!([(); 3].map(|()| rng.next_u32()), words);
+            assert_eq!(before(state(&rng), read + 3), from);
         }
     }
 }

@@ -187,7 +187,7 @@ fn sample_words(call: &Sampling, indices: &mut [u32], scratch: &mut [u32]) -> En
 }
 
 /// Fault [`SPENT_EARLY`].
-fn spent_early(call: &Sampling, indices: &mut [u32], scratch: &mut [u32]) -> Ended {
+pub fn spent_early(call: &Sampling, indices: &mut [u32], scratch: &mut [u32]) -> Ended {
     let drawing = |rng: &mut _, length, amount| {
         let mut sample = by_rand(rng, length, amount);
         let last = sample.words.last_mut();
@@ -200,7 +200,7 @@ fn spent_early(call: &Sampling, indices: &mut [u32], scratch: &mut [u32]) -> End
 }
 
 /// Fault [`SPENT_UNNEEDED`].
-fn spent_unneeded(call: &Sampling, indices: &mut [u32], scratch: &mut [u32]) -> Ended {
+pub fn spent_unneeded(call: &Sampling, indices: &mut [u32], scratch: &mut [u32]) -> Ended {
     unneeded(call.end(indices, scratch), call.budget)
 }
 
@@ -223,7 +223,7 @@ fn finished(call: &Sampling) -> Sample {
 }
 
 /// Fault [`SPENT_UNADVANCED`].
-fn spent_unadvanced(call: &Sampling, indices: &mut [u32], scratch: &mut [u32]) -> Ended {
+pub fn spent_unadvanced(call: &Sampling, indices: &mut [u32], scratch: &mut [u32]) -> Ended {
     let mut ended = call.end(indices, scratch);
     if ended.number == BUDGET_EXHAUSTED {
         ended.state = advanced(call.from, finished(call).words());

@@ -29,9 +29,20 @@ pub struct Answer {
 impl Answer {
     /// The answer where `end` ends the call and leaves the slices as they then are.
     pub fn new(call: &Sampling, end: End) -> Self {
-        let mut indices = Lent::new(call.indices_len);
-        let mut scratch = Lent::new(call.scratch_len);
-        let ended = end(call, indices.entries(), scratch.entries());
+        Self::of(call.indices_len, call.scratch_len, |indices, scratch| {
+            end(call, indices, scratch)
+        })
+    }
+
+    /// The same of any call with so many entries of indices and of scratch.
+    pub fn of(
+        indices_len: usize,
+        scratch_len: usize,
+        end: impl FnOnce(&mut [u32], &mut [u32]) -> Ended,
+    ) -> Self {
+        let mut indices = Lent::new(indices_len);
+        let mut scratch = Lent::new(scratch_len);
+        let ended = end(indices.entries(), scratch.entries());
         Self {
             ended,
             indices,

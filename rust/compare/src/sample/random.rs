@@ -9,7 +9,7 @@ use super::fixed::scratch_needed;
 use crate::inputs::Source;
 
 /// The slices of a random call are no longer.
-const LONGEST: u64 = 60_000;
+pub const LONGEST: u64 = 60_000;
 
 /// No draw of a sample of more indices is looked for.
 const MOST_DRAWN: u32 = 1000;
@@ -47,7 +47,7 @@ pub fn start(length: u64, amount: u64, source: &mut Source) -> State {
 }
 
 /// A length and an amount.
-fn sizes(source: &mut Source) -> (u64, u64) {
+pub fn sizes(source: &mut Source) -> (u64, u64) {
     let any = |source: &mut Source, end: u64| u64::from(source.below(end as u32));
     match source.below(128) {
         0 => (source.u64() % (1 << 34), any(source, 400)),

@@ -4,9 +4,9 @@ use core::array;
 
 use super::{
     Choose, gapyndura_choose, gapyndura_choose_stable, gapyndura_next_u32,
-    gapyndura_partial_shuffle, gapyndura_sample, gapyndura_sample_fill, gapyndura_shuffle,
-    gapyndura_weights_new, gapyndura_weights_pick, gapyndura_weights_update,
-    gapyndura_weights_weight,
+    gapyndura_partial_shuffle, gapyndura_sample, gapyndura_sample_fill,
+    gapyndura_sample_stratified, gapyndura_shuffle, gapyndura_weights_new, gapyndura_weights_pick,
+    gapyndura_weights_update, gapyndura_weights_weight,
 };
 
 /// A call with a state, and with the out-parameter that is written.
@@ -86,6 +86,74 @@ fn a_spent_sample_counts_what_it_has_written() {
         let arranged = scratch.iter().filter(|&&index| index != u32::MAX);
         assert_eq!(arranged.count(), if count == 0 { 30 } else { 0 });
     }
+}
+
+/// The lengths and the amounts of parts.
+type Lists<'a> = [&'a [u64]; 2];
+
+/// The answer to a stratified sample with 31 entries of scratch, what it writes, the state afterwards, and the indices written, by the
+/// entries that are other than before.
+fn stratified(
+    state: [u64; 4],
+    [lengths, amounts]: Lists<'_>,
+    budget: u64,
+) -> (u32, [u64; 2], [u64; 4], usize) {
+    let (mut indices, mut scratch) = ([u32::MAX; 40], [u32::MAX; 31]);
+    let (mut state, mut out) = (state, BEFORE);
+    // SAFETY: as above.
+    let number = unsafe {
+        gapyndura_sample_stratified(
+            &mut state,
+            lengths.as_ptr(),
+            lengths.len(),
+            amounts.as_ptr(),
+            amounts.len(),
+            budget,
+            indices.as_mut_ptr(),
+            indices.len(),
+            scratch.as_mut_ptr(),
+            scratch.len(),
+            &mut out,
+        )
+    };
+    let written = indices.iter().filter(|&&index| index != u32::MAX);
+    (number, out, state, written.count())
+}
+
+/// Each cause, some with others behind it in the order. The parts before one that is refused are not drawn.
+#[test]
+fn a_refused_stratified_sample_has_read_and_written_nothing() {
+    let refused: [(u32, [u64; 4], Lists<'_>); 9] = [
+        (12, [0; 4], [&[9, 9], &[1]]),
+        (12, [0; 4], [&[], &[]]),
+        (17, STATE, [&[9, 9], &[1]]),
+        (17, STATE, [&[9], &[10, 99]]),
+        (17, STATE, [&[u64::MAX, 2], &[u64::MAX, 99]]),
+        (17, STATE, [&[(1 << 32) - 1, 1], &[1, 1]]),
+        (1, STATE, [&[9, 9, 99], &[1, 10, 99]]),
+        (8, STATE, [&[30, 32], &[10, 31]]),
+        (9, STATE, [&[30, 32], &[10, 12]]),
+    ];
+    for (number, state, parts) in refused {
+        for budget in [0, 99] {
+            let answer = stratified(state, parts, budget);
+            assert_eq!(answer, (number, [0; 2], state, 0), "{parts:?}");
+        }
+    }
+}
+
+/// The count is that of the finished parts and of what is written of the next: by Floyd's method one for each word here, and none in place.
+#[test]
+fn a_spent_stratified_sample_counts_what_it_has_written() {
+    let parts: Lists<'_> = [&[9, 5, 30, 9], &[5, 0, 12, 3]];
+    for (budget, count) in [(0, 0), (3, 3), (5, 5), (7, 5), (16, 5), (17, 17), (19, 19)] {
+        let answer = stratified(STATE, parts, budget);
+        let out = [budget, count];
+        assert_eq!(answer, (13, out, after(STATE, budget), count as usize));
+    }
+    let answer = stratified(STATE, parts, 20);
+    assert_eq!(answer, (0, [20, 20], after(STATE, 20), 20));
+    assert_eq!(stratified(STATE, [&[], &[]], 0), (0, [0; 2], STATE, 0));
 }
 
 /// The state after so many words.

@@ -18,6 +18,7 @@ use crate::sample::Sample;
 use crate::sample::faults::with_draws;
 use crate::seeding::{FromSeed, SeedFromU64};
 use crate::shuffle::{PartialShuffle, Shuffle};
+use crate::stratified::SampleStratified;
 use crate::view::IndexedSamples;
 use crate::weights::{History, faults};
 use crate::word::{NextU32, OF_NEXT_STEP};
@@ -94,6 +95,7 @@ pub fn of(name: Name) -> Vec<&'static str> {
             faults::PICK_WORDS,
             faults::PICK_THRESHOLD,
         ]),
+        Name::SampleStratified => SampleStratified::FAULTS.to_vec(),
     }
 }
 
@@ -116,6 +118,7 @@ pub fn planted(fault: &str) -> Calls {
         choose: Choose::new(plant).end,
         choose_stable: ChooseStable::new(plant).end,
         weights: faults::planted(plant),
+        sample_stratified: SampleStratified::new(plant).end,
         ..PORT
     };
     if let Some((_, draws, sample)) = DRAWS.into_iter().find(|(name, ..)| *name == fault) {
