@@ -8,7 +8,7 @@ use libc::STDERR_FILENO;
 use libc::STDIN_FILENO;
 use libc::STDOUT_FILENO;
 
-// Room for the book. Only its length is told, which lending it asks for.
+// Room for the book. Its contract tells the length alone, which is all that a loan of it needs.
 fn book_room() -> [u8; 65537]
     ensures { λ r. ⌜ 65537 ≡ length r ⌝ }
 {

@@ -1,4 +1,4 @@
--- What a job of a draw book draws (document 02, Q-4).
+-- What a job of a draw book draws (SCOPE 17.8).
 use mathlib.Core.Path.{_≡_}
 use mathlib.Core.Bool.{cond}
 use mathlib.Core.List.{List, [], _++_}
@@ -16,7 +16,7 @@ use Rattle.weighted_index.specs.declared.answer.WeightedIndex.{WeightedIndex}
 use Rattle.pick.specs.Pick.{pickOf}
 use Rattle.book_jobs.specs.declared.Drawn.{Drawn}
 
--- the slices for indices, scratch and sums have so many entries each (document 02: tray, bench and sums)
+-- the slices for indices, scratch and sums have so many entries each (SCOPE 17.9; owner: tray, bench and sums)
 abbrev pub mostEntries : ℕ
 mostEntries = 8192
 

@@ -1,4 +1,4 @@
--- What jobs answer, in the request's sentences.
+-- What jobs answer (SCOPE 17.8 to 17.11).
 use mathlib.Core.Path.{_≡_}
 use mathlib.Core.List.{List, [], _∷_}
 use Prim.Native.Nat.{ℕ, suc, _<_}
@@ -17,7 +17,7 @@ pub record JobAnswers : Type 0 where
   -- weights that make no table are refused as such, however many picks there are
   pub weights-first : (seed ws : List ℕ) (picks budget : ℕ) → (newOf ws zeros .answer .number ≡ 0 → ⊥)
       → picksAnswer seed picks budget ws ≡ newOf ws zeros .answer
-  -- more picks than a slice has entries is 8, the last check before any pick
+  -- more picks than a slice has entries are refused with 8, behind all other checks
   pub picks-last : (seed ws : List ℕ) (picks budget : ℕ) → newOf ws zeros .answer .number ≡ 0 → mostEntries < picks
       → picksAnswer seed picks budget ws ≡ declined SliceTooShort
   -- no picks have no values, after all checks

@@ -1,4 +1,4 @@
--- The answers of a draw book, and what is printed of them (document 02, Q-4).
+-- The answers of a draw book, and what is printed of them (SCOPE 17.7).
 use mathlib.Core.List.{List, [], _∷_}
 use mathlib.Core.Option.{Option, none, some}
 use Prim.Native.Nat.{ℕ, _+_}

@@ -1,4 +1,4 @@
--- What is printed of a draw book, in the request's sentences.
+-- What is printed of a draw book (SCOPE 17.7, 17.12, 17.13).
 use mathlib.Core.Path.{_≡_}
 use mathlib.Core.Bool.{true}
 use mathlib.Core.List.{List, [], _∷_, _++_}
@@ -17,9 +17,9 @@ use Rattle.book_output.specs.Running.{linesFrom, RanFrom}
 use Rattle.book_output.specs.declared.Ran.{Ran}
 
 pub record Output : Type 0 where
-  -- a book of four zero bytes prints nothing
+  -- the empty book, which is four zero bytes, has no output
   pub empty : outputOf (0 ∷ 0 ∷ 0 ∷ 0 ∷ []) ≡ []
-  -- a bad book prints its refusal as the one line
+  -- a book that is refused has one line, its refusal
   pub refused : (b : List ℕ) (why : Refusal) → readRefusal b ≡ some why → outputOf b ≡ answerLine (declined why)
   -- of more than 65,536 bytes the first 65,537 print the same, so that no program has to hold more
   pub long : (b : List ℕ) → mostBytes < length b → outputOf (take (suc mostBytes) b) ≡ outputOf b

@@ -13,8 +13,8 @@ use Rattle.book_output.specs.declared.Ran.{Ran}
 unfoldable pub linesFrom : (answers : List Answer) (from next : ℕ) → List ℕ
 linesFrom answers from next = answerLines (take (next - from) (drop from answers))
 
--- A call from a place on. The first bytes of the output are the lines up to the next place, and those behind them are as they were. It stops where no
--- answer is left, or where the output has no room for any line, and not later; behind the last answer it stays where it is.
+-- A call from a place on. The first bytes of the output are the lines up to the next place, and those behind them are as they were. It stops if no
+-- answer is left, or if the output has no room for any line, and not later; behind the last answer it stays where it is.
 pub record RanFrom (answers : List Answer) (from : ℕ) (entry out : List ℕ) (r : Ran) : Type 0 where
   pub behind : from ≤ r .next
   pub inside : from < length answers → r .next ≤ length answers

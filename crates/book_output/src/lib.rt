@@ -102,14 +102,14 @@ fn run_refusal(number: u32, from: u64, out: &mut [u8]) -> Ran
     }
 }
 
-// Room for the numbers of a book. Only its length is told.
+// Room for the numbers of a book. Its contract tells the length alone.
 fn number_room() -> [u32; 16372]
     ensures { λ r. ⌜ 16372 ≡ length r ⌝ }
 {
     [0; 16372]
 }
 
-// Runs a book: writes the lines of its answers (`answersOf`) from place `from` on to the front of `out`, one after another, as long as `out` has room
+// Runs a book (SCOPE 17.7): writes the lines of its answers (`answersOf`) from place `from` on to the front of `out`, one after another, as long as `out` has room
 // for any line, which are 90,113 bytes (`RanFrom`). So a caller with less room than for all of them goes on from the place that it was told; all blocks
 // together are the definition `outputOf` (`Calls`). A book that is refused has one line. Later entries of `out` never change.
 // Cost: the book is read anew by each call; a job is carried out once for its line. A call holds some 180 KiB of stack.

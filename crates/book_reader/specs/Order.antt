@@ -1,4 +1,4 @@
--- How reading a book ends, case by case, in the request's words: what is wrong with a row is said of the row at a place, and not in the manner of a
+-- How reading a book ends, case by case (SCOPE 17.4): what is wrong with a row is said of the row at a place, and not in the manner of a
 -- walk. A definition that looks for the causes in another order, with its code, does not meet this.
 use mathlib.Core.Path.{_≡_}
 use mathlib.Core.Bool.{true, false}

@@ -18,7 +18,7 @@ mod bodies;
 mod contents;
 mod numbers;
 
-// Reads a book: the definition `readOf`. Answers the number of its jobs, and hands them back at the front of four arrays, which hold the most that a
+// Reads a book (SCOPE 17): the definition `readOf`. Answers the number of its jobs, and hands them back at the front of four arrays, which hold the most that a
 // book has: the kind of each; how many numbers it has; the seeds, 32 bytes each; and all numbers, one after another. `write` makes that very book of
 // them (`RoundTrip`). Later entries never change. A refusal changes nothing: 14 if the count is missing or above 64, or the contents are cut
 // short; 15 if a kind is not known; 16 if the bodies do not lie as the contents say, or the book has more than 65,536 bytes. Each is looked for in the

@@ -1,4 +1,4 @@
--- The reader accepts exactly the books that the writer makes, and gives back the very jobs written.
+-- Reader and writer agree.
 -- Assumes nothing.
 use mathlib.Core.Path.{_≡_, refl}
 use mathlib.Core.Bool.{Bool, true, false}

@@ -1,4 +1,4 @@
--- That the reader accepts exactly the books that the writer makes, and gives back the very jobs written.
+-- Reader and writer agree (SCOPE 17.3): a file is read exactly if the writer can make it, and as the jobs that it was made of.
 use mathlib.Core.Path.{_≡_}
 use mathlib.Core.List.{List}
 use mathlib.Core.Option.{none}

@@ -1,3 +1,3 @@
-// That the reader accepts exactly the books that the writer makes stands in specs/RoundTrip.antt and is proved in proofs/. A crate has at least one
+// That reader and writer agree stands in specs/RoundTrip.antt and is proved in proofs/. A crate has at least one
 // function: this one does nothing.
 pub fn nothing() {}

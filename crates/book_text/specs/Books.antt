@@ -1,4 +1,4 @@
--- Which book a text makes, and which text shows a book.
+-- Which book a text makes, and which text shows a book (SCOPE 17.15).
 use mathlib.Core.Path.{_≡_}
 use mathlib.Core.Bool.{cond}
 use mathlib.Core.List.{List}

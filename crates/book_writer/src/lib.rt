@@ -17,7 +17,7 @@ mod bodies;
 mod lists;
 mod numbers;
 
-// Writes the book of jobs to the front of `out`: the definition `writeOf`. Answers its length. The jobs come as the reader gives them: the kind of each,
+// Writes the book of jobs to the front of `out` (SCOPE 17): the definition `writeOf`. Answers its length. The jobs come as the reader gives them: the kind of each,
 // how many numbers it has, the seeds, 32 bytes each, and all numbers, one after another. Entries past the book never change. `read` gives back these
 // very jobs (`RoundTrip`). A refusal changes nothing: 14 for more than 64 jobs, or more or fewer counts than kinds; 15 for a kind that is not
 // known; 16 for a count that is none of its kind, for more or fewer seed bytes or numbers than the jobs have, or for a book of more than 65,536 bytes;

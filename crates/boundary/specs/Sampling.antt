@@ -7,7 +7,7 @@ use Rattle.refusal.specs.declared.Outcome.{Outcome}
 use Rattle.index.specs.Sample.{Sampling}
 use Rattle.boundary.specs.State.{words, valueOr0}
 
--- How the call ends, and what its lent memory then holds, where the sample leaves s: state, out with the words read and then the count of indices
+-- How the call ends, and what its lent memory then holds, if the sample leaves s: state, out with the words read and then the count of indices
 -- written, and both slices.
 pub record SampledInto (s : Sampling) (o : Outcome) (st ws xs ys : List ℕ) : Type 0 where
   pub answer : answerOf o (valueOr0 (s .answer)) ≡ s .answer

@@ -19,10 +19,10 @@ pub record Drawn : Type 0 where
   pub state : List ℕ
   pub out : List ℕ
 
--- an answer's one value, and 0 where there is none
+-- an answer's one value, and 0 if there is none
 abbrev pub valueOr0 : Answer → ℕ
 valueOr0 a = getD (a .values) 0 0
 
--- 1 and the value, or 0 and 0 where there is none
+-- 1 and the value, or 0 and 0 if there is none
 abbrev pub optional : Answer → List ℕ
 optional a = length (a .values) ∷ valueOr0 a ∷ []

@@ -1,4 +1,4 @@
--- What the calls on tables of weights are given and write.
+-- What the calls on tables of weights are given and write (SCOPE 20.2, 20.3).
 use mathlib.Core.Path.{_≡_}
 use mathlib.Core.Bool.{true, cond}
 use mathlib.Core.List.{List, [], _∷_}
@@ -31,7 +31,7 @@ pub record Made : Type 0 where
   pub table : List ℕ
   pub «cumulative_weights» : List ℕ
 
--- the record is written where the call was carried out; a refusal leaves what was there
+-- the record is written if the call was carried out; a refusal leaves what was there
 abbrev pub tableAfter : Answer → (before : List ℕ) → List ℕ
 tableAfter a before = cond (eqb (a .number) 0) (a .values) before
 

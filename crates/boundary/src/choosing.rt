@@ -7,7 +7,7 @@ use super::state::store;
 use choose::Choice;
 use choose::Chosen;
 
-// The words read, and 1 and the item, or 0 and 0 where there is none.
+// The words read, and 1 and the item, or 0 and 0 if there is none.
 pub fn item_out(answer: Choice, read: u64) -> [u64; 3]
     ensures { λ r. ⌜ r ≡ read ∷ optional (answerOfChoice answer) ⌝ }
 {

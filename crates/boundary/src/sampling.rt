@@ -9,7 +9,7 @@ use refusal::Outcome;
 
 // Draws as `index::sample` does, from the generator in `state`, which then holds the generator afterwards; `out` has the words read and the count of
 // indices written (`SampledInto`). The C function of a sample and the parts of a stratified one use it. Since two callers do, it is not compiled into
-// them: a generator that is lent is then passed on as it is, where one that goes in and comes back by value would be copied twice. The last arguments
+// them: a generator that is lent is then passed on as it is, while one that goes in and comes back by value would be copied twice. The last arguments
 // lie in memory: in this order no two of them are copied as one, for which the processor would wait until both are written.
 pub fn sample_into(
     state: &mut [u64; 4],

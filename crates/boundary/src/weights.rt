@@ -42,7 +42,7 @@ pub fn store_made(answer: Made, table: &mut [u64; 2]) -> u32
     }
 }
 
-// Writes 1 and the weight, or 0 and 0 where there is none. Answers the number.
+// Writes 1 and the weight, or 0 and 0 if there is none. Answers the number.
 pub fn store_looked(answer: Looked, out: &mut [u64; 2]) -> u32
     ensures { λ r. ⌜ (r ≡ answerOfLooked answer .number) × (now (out .exit) ≡ optional (answerOfLooked answer)) ⌝ }
 {

@@ -1,4 +1,4 @@
--- What `choose` and `choose_stable` answer, refusals included. The definitions follow the Rust, as document 01 says.
+-- What `choose` and `choose_stable` answer, refusals included. The definitions follow the Rust (SCOPE 12.3 to 12.6).
 use mathlib.Core.Bool.{Bool, cond, _&&_}
 use mathlib.Core.List.{List, [], _∷_, map}
 use mathlib.Core.Option.{Option, none, some}
@@ -32,7 +32,7 @@ exactly budget items (suc (suc n)) g = itemAt items (boundedWithin (suc (suc n))
 
 -- ---- else turn by turn
 
--- At a place p from which at least l items remain: one draw for l items at once where l is 2 or more, else a coin for the next one.
+-- At a place p from which at least l items remain: one draw for l items at once if l is 2 or more, else a coin for the next one.
 unfoldable pub turnOf : (budget l p : ℕ) (items held : List ℕ) → Coins → Flipping
 turnOf budget l p items held s = cond (ltb 1 l) (byDraw budget l p items held s) (byCoin budget (suc p) (getD items 0 0) held s)
 
@@ -62,7 +62,7 @@ abbrev pub unless : Option Refusal → Xoshiro256PlusPlus → Drawing → Drawin
 unless none g d = d
 unless (some why) g d = ending (declined why) (start g)
 
--- `choose`: one draw where the two hints at the start agree ("no upper" agrees with no lower hint that holds), else turn by turn
+-- `choose`: one draw if the two hints at the start agree ("no upper" agrees with no lower hint that holds), else turn by turn
 unfoldable pub chooseOf : Xoshiro256PlusPlus → (items lower upper : List ℕ) (budget : ℕ) → Drawing
 chooseOf g items lower upper budget =
     unless (checkOf g items lower upper) g

@@ -13,14 +13,14 @@ use Rattle.choose.specs.Stable.{stableFrom}
 use Rattle.choose.specs.Choose.{checkOf, chooseOf, chooseStableOf}
 
 pub record Choosing : Type 0 where
-  -- Two runs of the stable choice on the same items, generator and budget give the same answer, words and generator, whichever hints that hold they
-  -- are given: refused runs too, and those that the budget ends.
+  -- SCOPE 12.7: any two pairs of hints that hold give the stable choice the same answer, words and generator, if items, generator and budget are the
+  -- same: refused runs too, and those that the budget ends.
   pub any-hints : (g : Xoshiro256PlusPlus) (items lower upper lower' upper' : List ℕ) (budget : ℕ) → hintsHold (length items) lower upper ≡ true
       → hintsHold (length items) lower' upper' ≡ true → chooseStableOf g items lower upper budget ≡ chooseStableOf g items lower' upper' budget
   -- the stable choice is one-over-(p + 1) for each place p in order, whatever the hints are that the call takes
   pub stable : (g : Xoshiro256PlusPlus) (items lower upper : List ℕ) (budget : ℕ) → checkOf g items lower upper ≡ none
       → chooseStableOf g items lower upper budget ≡ stableFrom budget items 0 [] (start g)
-  -- "none" is the answer only where there is no item
+  -- "none" is the answer only if there is no item
   pub choose-none : (g : Xoshiro256PlusPlus) (items lower upper : List ℕ) (budget : ℕ)
       → chooseOf g items lower upper budget .answer ≡ done [] → items ≡ []
   pub stable-none : (g : Xoshiro256PlusPlus) (items lower upper : List ℕ) (budget : ℕ)

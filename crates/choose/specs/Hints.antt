@@ -1,4 +1,4 @@
--- The hints of a row of N items (document 01: feed; least and most): for each place p from 0 to N, how many of the N - p items that remain
+-- The hints of a row of N items (SCOPE 12.2; owner: feed; least and most): for each place p from 0 to N, how many of the N - p items that remain
 -- there are at least and at most. 2 ^ 32 - 1 as an upper hint is "no upper": no row has so many items.
 use mathlib.Core.Bool.{Bool, true, _&&_}
 use mathlib.Core.List.{List, [], _∷_}

@@ -1,4 +1,4 @@
--- The stable choice: rand's `choose_stable`.
+-- The stable choice: rand's `choose_stable` (SCOPE 12.6).
 use mathlib.Core.Bool.{cond}
 use mathlib.Core.List.{List, [], _∷_}
 use Prim.Native.Nat.{ℕ, zero, suc}
@@ -19,7 +19,7 @@ abbrev pub latest : (picked held : List ℕ) → List ℕ
 latest [] held = held
 latest (x ∷ xs) held = x ∷ xs
 
--- The same as the Rust goes about it. Where a lower hint is 2 or more, so many items are a group: the last of them that is picked, if any,
+-- The same as the Rust goes about it. If a lower hint is 2 or more, so many items are a group: the last of them that is picked, if any,
 -- replaces what is held once the group is over, and the item behind the group is asked for with no look at its hint. `ahead` counts the
 -- items up to that one, and at 0 the next hint is read.
 unfoldable pub stableByHints : (budget : ℕ) (lower items : List ℕ) (ahead p : ℕ) (picked held : List ℕ) → Coins → Drawing

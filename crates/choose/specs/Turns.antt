@@ -29,7 +29,7 @@ chosen r = record { answer = answerOfChoice (r .answer); words = r .words; rng =
 abbrev pub heldAt : (items : List ℕ) (place : ℕ) → List ℕ
 heldAt items place = take 1 (drop place items)
 
--- all that a turn leaves: what is held, or the refusal where the budget ran out; and the coins
+-- all that a turn leaves: what is held, or the refusal if the budget ran out; and the coins
 abbrev pub turned : (items : List ℕ) → Turn → Flipping
 turned items t = record { answer = cond (t .«is_spent») (declined BudgetExhausted) (done (heldAt items (t .place))); coins = seen (t .flipper) }
 
@@ -37,16 +37,16 @@ turned items t = record { answer = cond (t .«is_spent») (declined BudgetExhaus
 abbrev pub ending : Answer → Coins → Drawing
 ending a s = record { answer = a; words = s .words; rng = s .rng }
 
--- the call goes on with what is held where the number is 0, and else ends with the turn's answer
+-- the call goes on with what is held if the number is 0, and else ends with the turn's answer
 abbrev pub next : (number : ℕ) → Flipping → (List ℕ → Coins → Drawing) → Drawing
 next zero t more = more (t .answer .values) (t .coins)
 next (suc n) t more = ending (t .answer) (t .coins)
 
--- after a turn: goes on with what is held, or ends where the budget ran out
+-- after a turn: goes on with what is held, or ends if the budget ran out
 abbrev pub after : Flipping → (List ℕ → Coins → Drawing) → Drawing
 after t more = next (t .answer .number) t more
 
--- what a question or a draw gave makes the answer: no value where the budget ran out
+-- what a question or a draw gave makes the answer: no value if the budget ran out
 abbrev pub given : List ℕ → (ℕ → List ℕ) → Answer
 given [] hold = declined BudgetExhausted
 given (v ∷ vs) hold = done (hold v)

@@ -45,7 +45,7 @@ pub(crate) fn choose_exact(rng: Xoshiro256PlusPlus, items: &[u32], budget: u64) 
     ended(Choice::Item(item), words, after)
 }
 
-// Whether a turn was a draw for all the items that remain, which is so where both hints agree: the definition `drawnLast`.
+// Whether a turn was a draw for all the items that remain, which is so if both hints agree: the definition `drawnLast`.
 fn drawn_last(least: u32, most: u32) -> bool
     ensures { λ r. ⌜ r ≡ drawnLast least most ⌝ }
 {
@@ -62,7 +62,7 @@ fn turn_length(least: u32) -> usize
     1
 }
 
-// The hint at a place, and 0 where the list has none.
+// The hint at a place, and 0 if the list has none.
 fn hint_at(hints: &[u32], place: usize) -> u32
     ensures { λ r. ⌜ r ≡ getD (now (hints .entry)) place 0 ⌝ }
 {

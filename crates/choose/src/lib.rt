@@ -67,11 +67,11 @@ fn check(rng: Xoshiro256PlusPlus, items: &[u32], lower: &[u32], upper: &[u32]) -
     Outcome::Done
 }
 
-// Chooses one item: the definition `chooseOf`, which follows the Rust. Where the count is known from the start, one bounded draw is made; else
+// Chooses one item (SCOPE 12): the definition `chooseOf`, which follows the Rust. If the count is known from the start, one bounded draw is made; else
 // one for each group of items that are sure to remain, and one-over-n for each other item, the nth, and the coins left of a word survive the
-// draws between them. The answer is "none" exactly where there is no item (`Choosing`). `lower` and `upper` have an entry for every place
+// draws between them. The answer is "none" exactly if there is no item (`Choosing`). `lower` and `upper` have an entry for every place
 // from 0 to the count of the items; 2^32 - 1 as an upper one is "no upper". Refuses with 12 an all-zero generator, with 10 more than 2^32 - 2
-// items, with 11 hints that do not hold, reading no word; and with 13 where a word is needed and `budget` are read. Cost: the check for 11
+// items, with 11 hints that do not hold, reading no word; and with 13 if a word is needed and `budget` are read. Cost: the check for 11
 // reads both lists of hints; then a draw or some coins for each turn.
 pub fn choose(
     rng: Xoshiro256PlusPlus,
@@ -92,11 +92,11 @@ pub fn choose(
     choose_by_hints(rng, items, lower, upper, budget)
 }
 
-// Chooses one item so that nothing but the generator and the count of the items decides which: the definition `chooseStableOf`, which follows
+// Chooses one item so that nothing but the generator and the count of the items decides which (SCOPE 12.6): the definition `chooseStableOf`, which follows
 // the Rust. It comes to one-over-n for each item in order, the nth, whatever the hints are (`stable` of `Choosing`), and so does the code, which
 // reads the hints only to refuse false ones: all hints that hold give the same answer, words and generator (`any-hints` of `Choosing`). Of N
 // items none has more than one Nth of the rows of coins (`StableShares` of crate `choose_shares`). Refuses as `choose` does, and the answer is
-// "none" exactly where there is no item. Cost: the check of the hints, and for each item two coins on average.
+// "none" exactly if there is no item. Cost: the check of the hints, and for each item two coins on average.
 pub fn choose_stable(
     rng: Xoshiro256PlusPlus,
     items: &[u32],

@@ -100,7 +100,7 @@ pub(crate) fn by_draw(
     }
 }
 
-// One draw for the `least` items from place `at` on where they are 2 or more, else a coin for the item there: the definition `turnOf`.
+// One draw for the `least` items from place `at` on if they are 2 or more, else a coin for the item there: the definition `turnOf`.
 pub(crate) fn turn_at(
     flipper: CoinFlipper,
     held: usize,

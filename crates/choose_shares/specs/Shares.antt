@@ -1,4 +1,4 @@
--- The shares of the stable choice: how many of the 2 ^ m rows of m coins choose a value, and how many leave the choice open.
+-- The shares of the stable choice: how many of the 2 ^ m rows of m coins choose a value, and how many leave the choice open (SCOPE 16.22).
 use mathlib.Core.Path.{_≡_}
 use mathlib.Core.Bool.{true}
 use mathlib.Core.List.{List, [], _∷_, map}

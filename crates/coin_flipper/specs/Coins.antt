@@ -1,4 +1,4 @@
--- Coins, and one-over-d coin by coin (document 01: coins). A row of coins is a list; true is heads.
+-- Coins, and one-over-d coin by coin (SCOPE 11.1 to 11.3). A row of coins is a list; true is heads.
 use mathlib.Core.Bool.{Bool, true, false, cond}
 use mathlib.Core.List.{List, [], _∷_}
 use Prim.Native.Nat.{ℕ, zero, suc, _-_, _*_, _%_, _^_}
@@ -14,8 +14,8 @@ pub data Row : Type 0 where
   settled : Bool → List Bool → Row
   unsettled : ℕ → Row
 
--- One-over-d, come to the number n: while n < d a coin is flipped. Heads makes n 2n; tails makes it 2n - d, and the answer is no where that
--- is 0 or less. Yes once n is d or more.
+-- One-over-d, come to the number n. If n is d or more, the answer is yes. Otherwise a coin is flipped: heads double n, tails leave 2n - d, and if
+-- nothing is left the answer is no.
 unfoldable pub ratio : (d n : ℕ) → List Bool → Row
 ratio d n [] = cond (ltb n d) (unsettled n) (settled true [])
 ratio d n (c ∷ cs) =

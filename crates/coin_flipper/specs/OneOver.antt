@@ -1,4 +1,4 @@
--- What is said of one-over-d besides.
+-- What is said of one-over-d besides (SCOPE 11.4, 16.21).
 use mathlib.Core.Path.{_≡_}
 use mathlib.Core.Bool.{Bool, true}
 use mathlib.Core.List.{List, [], _∷_}

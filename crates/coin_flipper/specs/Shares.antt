@@ -10,7 +10,7 @@ use Rattle.counting.specs.Count.{oneIf, countLists}
 use Rattle.coin_flipper.specs.Coins.{ratio}
 use Rattle.coin_flipper.specs.Rows.{countRows, saysYes, leavesOpen, coinsOfWords}
 
--- how many of the 2 ^ m rows of m coins settle one-over-d as yes, from the number n on
+-- how many of the 2 ^ m rows of m coins settle one-over-d with yes, from the number n on
 unfoldable pub yesShare : (d n m : ℕ) → ℕ
 yesShare d n m = countRows (λ cs. saysYes (ratio d n cs)) m
 
@@ -25,9 +25,9 @@ oneUnlessDivides d x = oneIf (not (eqb (x % d) 0))
 pub record CoinShares : Type 0 where
   -- There are 2 ^ m rows of m coins.
   pub rows : (m : ℕ) → countRows (λ cs. true) m ≡ 2 ^ m
-  -- For every d from 1 and every m, exactly floor (2 ^ m / d) of them settle one-over-d as yes,
+  -- SCOPE 16.19: exactly floor (2 ^ m / d) of them settle one-over-d with yes, whatever m, and whatever d from 1 on;
   pub yes : (d m : ℕ) → 0 < d → yesShare d 1 m ≡ 2 ^ m / d
-  -- and at most one row stays unsettled: none if d divides 2 ^ m, else exactly one.
+  -- SCOPE 16.20: none leaves it open if d divides 2 ^ m, else exactly one.
   pub left-open : (d m : ℕ) → 0 < d → openShare d 1 m ≡ oneUnlessDivides d (2 ^ m)
   -- From any number n up to d the question says yes for exactly floor (2 ^ m × n / d) of the rows,
   pub yes-from : (d n m : ℕ) → 0 < d → n ≤ d → yesShare d n m ≡ 2 ^ m * n / d

@@ -41,7 +41,7 @@ takenOff n f = record { rng = f .rng; chunk = f .chunk * 2 ^ n % 2 ^ 32; «chunk
 abbrev pub refilledOf : CoinFlipper → CoinFlipper
 refilledOf f = record { rng = advance (f .rng); chunk = word (f .rng); «chunk_remaining» = 32; words = f .words + 1 }
 
--- c coins can be flipped at once for n over d: at most 31, and more than one only where each tails among them says no
+-- c coins can be flipped at once for n over d: at most 31, and more than one only if each tails among them says no
 pub record AtOnce (n d c : ℕ) : Type 0 where
   pub one : 1 ≤ c
   pub most : c ≤ 31

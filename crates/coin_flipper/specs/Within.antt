@@ -1,4 +1,4 @@
--- Questions to coins, with words read as they are needed, within a budget.
+-- Questions to coins, with words read as they are needed, within a budget (SCOPE 11.2, 11.6).
 use mathlib.Core.Bool.{Bool}
 use mathlib.Core.List.{List, [], _∷_}
 use Prim.Native.Nat.{ℕ, zero, suc, _-_}
@@ -41,7 +41,7 @@ abbrev pub answered : Row → Coins → (ℕ → Flipping) → Flipping
 answered (settled b cs) s more = record { answer = done (oneIf b ∷ []); coins = leaving cs s }
 answered (unsettled n) s more = more n
 
--- A question that stands at n, with w words that may be read: a word is read only where the coins left do not settle it.
+-- A question that stands at n, with w words that may be read: a word is read only if the coins left do not settle it.
 unfoldable pub asking : (question : ℕ → List Bool → Row) (w n : ℕ) → Coins → Flipping
 asking q zero n s = answered (q n (s .left)) s (λ m. exhausted s)
 asking q (suc w) n s = answered (q n (s .left)) s (λ m. asking q w m (refilled s))

@@ -113,7 +113,7 @@ impl CoinFlipper {
         }
     }
 
-    // Yes with the chance of n over d: the definition `ratioWithin`. Where 2n is below d any tails says no, and several coins are flipped at
+    // Yes with the chance of n over d: the definition `ratioWithin`. If 2n is below d any tails says no, and several coins are flipped at
     // once; else the order of the coins counts, and one is.
     fn random_ratio(self, n: u64, d: u32, budget: u64) -> Flipped
         requires { ⌜ (Held budget self) × (0 < n) × (n ≤ d) ⌝ }

@@ -1,4 +1,4 @@
--- Which texts are decimal numbers, and which number each of them is.
+-- Which texts are decimal numbers, and which number each of them is (SCOPE 20.5).
 use mathlib.Core.Bool.{Bool, cond, _&&_}
 use mathlib.Core.List.{List, [], _∷_}
 use Prim.Native.Nat.{ℕ, _+_, _*_, _^_}

@@ -8,7 +8,7 @@ use lib.Dec.{leb, ltb}
 unfoldable pub between : ℕ → ℕ → ℕ → Bool
 between a e b = leb a b && leb b e
 
--- what a digit counts: `0` to `9`, then `a` to `f` or `A` to `F`; 16 where the byte is none of these
+-- what a digit counts: `0` to `9`, then `a` to `f` or `A` to `F`; 16 if the byte is none of these
 unfoldable pub digitOf : ℕ → ℕ
 digitOf b = cond (between 48 57 b) (b - 48) (cond (between 97 102 b) (b - 97 + 10) (cond (between 65 70 b) (b - 65 + 10) 16))
 

@@ -22,7 +22,7 @@ unfoldable pub valuesText : List ℕ → List ℕ
 valuesText [] = []
 valuesText (v ∷ vs) = 32 ∷ (decimalText v ++ valuesText vs)
 
--- a block holds the text of the values from a place up to the next; where there are some and the block has room for one, that is one at least
+-- a block holds the text of the values from a place up to the next; if there are some and the block has room for one, that is one at least
 pub record SpelledFrom (values : List ℕ) (from : ℕ) (block : List ℕ) (r : Spelled) : Type 0 where
   pub behind : from ≤ r .next
   pub inside : r .next ≤ length values

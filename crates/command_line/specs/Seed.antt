@@ -1,4 +1,4 @@
--- Which texts are seeds, and which generator each of them gives.
+-- Which texts are seeds, and which generator each of them gives (SCOPE 20.5).
 use mathlib.Core.Bool.{Bool, cond, _&&_}
 use mathlib.Core.List.{List, [], _∷_}
 use Prim.Native.Nat.{ℕ, _+_, _*_}

@@ -1,4 +1,4 @@
--- A generator as 64 hex digits, and that they are a seed for it.
+-- A generator as 64 hex digits, and that they are a seed for it (SCOPE 20.6).
 use mathlib.Core.Path.{_≡_}
 use mathlib.Core.Bool.{false, cond}
 use mathlib.Core.List.{List, [], _∷_, _++_}
@@ -30,6 +30,6 @@ stateBytes g = wordBytes 8 (g .s0) ++ (wordBytes 8 (g .s1) ++ (wordBytes 8 (g .s
 unfoldable pub seedText : Xoshiro256PlusPlus → List ℕ
 seedText g = hexText (stateBytes g)
 
--- the text of a generator is a seed for it, but where its state is all 0
+-- the text of a generator is a seed for it, unless its state is all 0
 pub record ReadsBack : Type 0 where
   pub same : (g : Xoshiro256PlusPlus) → g .s0 < 2 ^ 64 → g .s1 < 2 ^ 64 → g .s2 < 2 ^ 64 → g .s3 < 2 ^ 64 → zeroState g ≡ false → seedOf (seedText g) ≡ Generator g

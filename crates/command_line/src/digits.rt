@@ -12,7 +12,7 @@ fn is_between(first: u8, last: u8, b: u8) -> bool
     b <= last
 }
 
-// What a digit counts, and 16 where the byte is none: the definition `digitOf`.
+// What a digit counts, and 16 if the byte is none: the definition `digitOf`.
 pub(crate) fn digit(b: u8) -> u8
     ensures { λ r. ⌜ r ≡ digitOf b ⌝ }
 {

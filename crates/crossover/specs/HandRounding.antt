@@ -1,4 +1,4 @@
--- The rounding by hand is the one of IEEE 754.
+-- The rounding by hand is the one of IEEE 754 (SCOPE 6.6).
 use mathlib.Core.Path.{_≡_}
 use Prim.Native.Nat.{ℕ, _^_, _<_}
 use lib.Ieee.{binary32, ofInt}

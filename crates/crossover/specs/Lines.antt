@@ -1,4 +1,4 @@
--- The two comparisons of the crossover. Each operation is IEEE's on binary32, and so rounded once.
+-- The two comparisons of the crossover. Each operation is IEEE's on binary32, and so rounded once (SCOPE 6.2 to 6.5).
 use mathlib.Core.Bool.{Bool, false, cond}
 use Prim.Native.Nat.{ℕ}
 use lib.Dec.{ltb}

@@ -1,4 +1,4 @@
--- Which method a sample uses (document 01: crossover).
+-- Which method a sample uses (SCOPE 6.1).
 use mathlib.Core.Bool.{cond}
 use Prim.Native.Nat.{ℕ}
 use lib.Dec.{ltb}
@@ -6,7 +6,7 @@ use Rattle.crossover.specs.Lines.{lineOf, ratioOf, belowLine, belowRatio
 use Rattle.crossover.specs.declared.Method.{Method}
 use Rattle.crossover.specs.declared.Method.the-variants.{Floyd, InPlace, Rejection}
 
--- the amount's range settles the rule: 0 to 11, 12 to 162, 163 and above
+-- the rule goes by the amount: below 12, from 12 to 162, from 163 on
 unfoldable pub methodOf : (length amount : ℕ) → Method
 methodOf length amount =
     cond (ltb amount 12) Floyd

@@ -1,4 +1,4 @@
--- A whole number as an f32: nearest, a tie to the even one, over whole numbers.
+-- A whole number as an f32: nearest, a tie to the even one, over whole numbers (SCOPE 6.6).
 use mathlib.Core.Bool.{cond}
 use Prim.Native.Nat.{ℕ, _+_, _-_, _*_, _/_, _%_, _^_}
 use lib.Dec.{ltb}
@@ -12,7 +12,7 @@ nearestEven n unit =
     (cond (ltb unit (n % unit * 2)) (n / unit + 1)
     (n / unit + n / unit % 2))
 
--- the weight of the last digit kept where n keeps its first 24 binary digits; `size n` is how many it has
+-- the weight of the last digit kept if n keeps its first 24 binary digits; `size n` is how many it has
 unfoldable pub unit24 : ℕ → ℕ
 unit24 n = 2 ^ (size n - 24)
 

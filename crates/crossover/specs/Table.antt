@@ -1,4 +1,4 @@
--- Crossover lengths (request Q-1): what one says of its amount.
+-- Crossover lengths (SCOPE 6.7, 6.8): what one says of its amount.
 use mathlib.Core.Path.{_≡_}
 use Prim.Native.Nat.{ℕ, _^_, _≤_, _<_}
 use Rattle.crossover.specs.Method.{methodOf}

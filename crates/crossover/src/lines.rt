@@ -6,7 +6,7 @@ use super::rounding::round_to_f32;
 // The first length of the upper class.
 const LONG_FROM: u32 = 500_000;
 
-// A crossover line (document 01), for amounts 12 to 162.
+// A crossover line (SCOPE 6.2), for amounts 12 to 162.
 pub struct Line {
     pub slope: f32,
     pub base: f32,

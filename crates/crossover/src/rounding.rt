@@ -1,4 +1,4 @@
-// A u32 as an f32, rounded by hand, since Rattle's `as` is defined only where nothing is lost.
+// A u32 as an f32, rounded by hand, since Rattle's `as` is defined only if nothing is lost.
 ghost use mathlib.Core.Path.{_≡_};
 ghost use Prim.Native.Nat.{_<_, _≤_};
 ghost use Rattle.crossover.specs.Rounding.{nearestEven, f32Of};
@@ -21,7 +21,7 @@ fn nearest_even(n: u32, unit: u32) -> u32
 
 // n rounded to 24 binary digits, then cast: the definition `f32Of`. It is the f32 that Rust's `n as f32` gives (`HandRounding`). Of a
 // longer number the digits kept and their unit are cast apart, and multiplied: the cast takes numbers up to 2^24 only, and the product
-// of two of them is exact where one is a power of two.
+// of two of them is exact if one is a power of two.
 pub fn round_to_f32(n: u32) -> f32
     ensures { λ x. ⌜ x ≡ f32Of n ⌝ }
 {

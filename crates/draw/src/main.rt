@@ -7,7 +7,7 @@ use libc::STDERR_FILENO;
 use libc::STDIN_FILENO;
 use lines::replay;
 
-// Room for a slice. Only its length is told, which lending it asks for.
+// Room for a slice. Its contract tells the length alone, which is all that a loan of it needs.
 fn small_entries() -> [u32; 65537]
     ensures { λ r. ⌜ 65537 ≡ length r ⌝ }
 {

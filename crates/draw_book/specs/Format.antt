@@ -1,4 +1,4 @@
--- The bytes of a draw book (document 02, Q-4): a count, a contents table, then the bodies. All numbers are little-endian, of 32 bits.
+-- The bytes of a draw book (SCOPE 17.1): a count, a contents table, then the bodies. All numbers are little-endian, of 32 bits.
 use mathlib.Core.List.{List, [], _∷_, _++_}
 use Prim.Native.Nat.{ℕ, _+_, _*_}
 use lib.ListN.{length, take, drop}

@@ -1,4 +1,4 @@
--- The jobs of a draw book, and what a body of each kind is (document 02, Q-4).
+-- The jobs of a draw book, and what a body of each kind is (SCOPE 17.2).
 use mathlib.Core.Bool.{Bool, cond, _||_}
 use mathlib.Core.List.{List}
 use Prim.Native.Nat.{ℕ, _+_, _*_, _^_}

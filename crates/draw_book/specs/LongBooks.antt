@@ -1,4 +1,4 @@
--- That the first 65,537 bytes of a longer input tell how it is refused, so that no reader has to hold more.
+-- That the first 65,537 bytes of a longer input tell how it is refused, so that no reader has to hold more (SCOPE 17.13).
 use mathlib.Core.Path.{_≡_}
 use mathlib.Core.List.{List}
 use mathlib.Core.Option.{none}

@@ -1,4 +1,4 @@
--- Why a draw book is refused. The reader and the writer give this one definition what each of them sees.
+-- Why a draw book is refused. The reader and the writer give this one definition what each of them sees (SCOPE 17.4).
 use mathlib.Core.Bool.{Bool, cond}
 use mathlib.Core.List.{List}
 use mathlib.Core.Option.{Option, none, some}

@@ -1,5 +1,5 @@
 -- Increasing indices from chunks: one bounded draw serves for several indices, which are its digits in the bases m, m + 1, ..
--- (document 01: Partial shuffle). `more m` is the number of factors after the first in the bound of a chunk that starts at m.
+-- (SCOPE 9.3 to 9.6). `more m` is the number of factors after the first in the bound of a chunk that starts at m.
 use mathlib.Core.Bool.{true, false}
 use mathlib.Core.List.{List, [], _∷_}
 use Prim.Native.Nat.{ℕ, zero, suc, _-_, _*_, _/_, _%_, _^_}
@@ -19,7 +19,7 @@ moreFrom (suc most) p m = elim (leb (p * m) (2 ^ 32 - 1)) [ true ↦ suc (moreFr
 unfoldable pub moreOf : ℕ → ℕ
 moreOf m = moreFrom 12 m (suc m)
 
--- the index for m from a chunk that holds so many later ones: the last of a chunk is the chunk itself
+-- the index for m from a chunk that holds so many later ones: the last one is what is left of the chunk
 abbrev pub digit : (m later chunk : ℕ) → ℕ
 digit m zero chunk = chunk
 digit m (suc later) chunk = chunk % m

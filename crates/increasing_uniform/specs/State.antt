@@ -20,7 +20,7 @@ startOf g n = record { rng = g; n = n; chunk = 0; «chunk_remaining» = firstLef
 unfoldable pub refill : (budget : ℕ) → IncreasingUniform → Drawing
 refill budget s = boundedWithin (factors (suc (s .n)) (suc (moreOf (suc (s .n))))) (budget - s .words) (s .rng) (s .words)
 
--- the state after that draw: with its value as the chunk, which holds an index for each factor; where it has none, with a chunk that is empty still
+-- the state after that draw: with its value as the chunk, which holds an index for each factor; if it has none, with a chunk that is empty still
 abbrev pub withChunk : (values : List ℕ) → Drawing → IncreasingUniform → IncreasingUniform
 withChunk [] d s = record { rng = d .rng; n = s .n; chunk = 0; «chunk_remaining» = 0; words = d .words }
 withChunk (v ∷ vs) d s = record { rng = d .rng; n = s .n; chunk = v; «chunk_remaining» = suc (moreOf (suc (s .n))); words = d .words }

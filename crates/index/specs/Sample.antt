@@ -49,7 +49,7 @@ byFloyd n amount d indices scratch =
       scratch = scratch;
     }
 
--- in place: the scratch slice keeps the whole arrangement, as far as draws are finished; the sample is written only where all are
+-- in place: the scratch slice keeps the whole arrangement, as far as draws are finished; the sample is written only if all are
 unfoldable pub byInPlace : (n amount : ℕ) → Draws → List ℕ → List ℕ → Sampling
 byInPlace n amount d indices scratch =
     record {
@@ -60,7 +60,7 @@ byInPlace n amount d indices scratch =
       scratch = arranged n (d .values) ++ drop n scratch;
     }
 
--- rejection: what is found stands at the front; where that is not all, the budget was used up
+-- rejection: what is found stands at the front; if that is not all, the budget was used up
 unfoldable pub byRejection : Found → List ℕ → List ℕ → Sampling
 byRejection f indices scratch =
     record {
@@ -78,7 +78,7 @@ byMethod InPlace n amount budget g indices scratch =
     cond (ltb (length scratch) n) (refuses ScratchTooShort g indices scratch) (byInPlace n amount (draws budget (falling n amount) g) indices scratch)
 byMethod Rejection n amount budget g indices scratch = byRejection (foundOf n amount budget g) indices scratch
 
--- the first refusal that applies, else the sample (document 01: tray for indices, work slice or bench for scratch, allowance for budget)
+-- the first refusal that applies, else the sample (SCOPE 7.1; owner: tray for indices, bench or work slice for scratch, allowance for budget)
 unfoldable pub sampleOf : (n amount budget : ℕ) → Xoshiro256PlusPlus → List ℕ → List ℕ → Sampling
 sampleOf n amount budget g indices scratch =
     cond (zeroState g) (refuses ZeroState g indices scratch)

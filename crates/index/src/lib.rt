@@ -34,7 +34,7 @@ pub fn refused(why: Refusal, rng: Xoshiro256PlusPlus) -> IndexSample
     }
 }
 
-// What a method has found; where that is not all, the budget was used up.
+// What a method has found; if that is not all, the budget was used up.
 fn found(f: FoundIndices) -> IndexSample
     ensures { λ r. ⌜ (answerOf (r .outcome) (r .count) ≡ written (f .all) (f .count)) × (r .words ≡ f .words) × (r .rng ≡ f .rng) ⌝ }
 {
@@ -56,11 +56,11 @@ fn found(f: FoundIndices) -> IndexSample
     }
 }
 
-// Draws `amount` distinct indices below `length`, in random order, to the front of `indices`: the definition `sampleOf`. No sample has more
+// Draws `amount` distinct indices below `length`, in random order, to the front of `indices` (SCOPE 7): the definition `sampleOf`. No sample has more
 // or less than its share (`IndexShares`). Entries past the amount never change. The method is rand's choice by length and amount
 // (`choose_method`). In place needs `length` entries of `scratch`, and leaves there all indices below `length` as it has arranged them; the other
 // two leave `scratch` as it was.
-// Every method heeds the budget: where a word is needed and `budget` words are read, the call is refused with 13. Floyd's method then leaves what
+// Every method heeds the budget: if a word is needed and `budget` words are read, the call is refused with 13. Floyd's method then leaves what
 // its finished draws give, replacements made, and its count is theirs. Rejection leaves what it has found, with its count. In place has written no
 // index, so its count is 0; `scratch` holds all indices below `length` as the finished exchanges have arranged them. An amount of 0 needs no word.
 // Any other refusal reads no word and changes nothing: 12 for an all-zero generator, 10 for a length above 2^32 - 1, 1 for an amount above
@@ -91,7 +91,7 @@ pub fn sample(
     }
     let n = length as u32;
     let k = amount as u32;
-    // A call that is not compiled in has its generator copied to memory: so it is copied where such a call is due.
+    // A call that is not compiled in has its generator copied to memory: so it is copied if such a call is due.
     match choose_method(n, k) {
         Method::Floyd => found(sample_floyd(rng, n, k, budget, indices)),
         Method::InPlace => {

@@ -1,4 +1,4 @@
--- Floyd's method (Bentley and Floyd, "Programming pearls: a sample of brilliance", 1987), in the form that keeps the order random.
+-- Floyd's method (Bentley and Floyd, "Programming pearls: a sample of brilliance", 1987), in the form that keeps the order random (SCOPE 7.2).
 use mathlib.Core.Bool.{true, false}
 use mathlib.Core.List.{List, [], _∷_, _++_}
 use Prim.Native.Nat.{ℕ, suc, _-_}

@@ -1,4 +1,4 @@
--- The sample in place: the first steps of a shuffle of all indices (Fisher and Yates; Durstenfeld 1964).
+-- The sample in place: the first steps of a shuffle of all indices (Fisher and Yates; Durstenfeld 1964) (SCOPE 7.3).
 use mathlib.Core.List.{List, [], _∷_, _++_}
 use Prim.Native.Nat.{ℕ, zero, suc, _+_, _-_}
 use Rattle.counting.specs.Lists.{swapAt}

@@ -26,7 +26,7 @@ pub record Swapped (d : Draws) (before after : List ℕ) (r : Reading) : Type 0 
   pub words : r .words ≡ d .words
   pub rng : r .rng ≡ d .rng
 
--- in place: all indices below n as the finished draws arrange them; the sample is copied where all are finished
+-- in place: all indices below n as the finished draws arrange them; the sample is copied if all are finished
 pub record InPlaceSample (n amount : ℕ) (d : Draws) (before after work work′ : List ℕ) (r : FoundIndices) : Type 0 where
   pub indices : after ≡ cond (d .all) (take amount (arranged n (d .values)) ++ drop amount before) before
   pub scratch : work′ ≡ arranged n (d .values) ++ drop n work

@@ -1,4 +1,4 @@
--- The sample by rejection: draws below n, one already held being dropped.
+-- The sample by rejection: draws below n, one already held being dropped (SCOPE 7.4).
 use mathlib.Core.Bool.{Bool, true, false}
 use mathlib.Core.List.{List, [], _∷_, _++_}
 use mathlib.Core.Option.{Option, none, some}
@@ -30,7 +30,7 @@ pub record Found : Type 0 where
   pub words : ℕ
   pub rng : Xoshiro256PlusPlus
 
--- With n words left to read and k read: each word that a rejecting draw below r accepts is a draw. Where the words run out, what is held
+-- With n words left to read and k read: each word that a rejecting draw below r accepts is a draw. If the words run out, what is held
 -- is what is found.
 unfoldable pub foundFrom : (r : ℕ) (held : List ℕ) (wanted n : ℕ) → Xoshiro256PlusPlus → (k : ℕ) → Found
 foundFrom r held zero n g k = record { indices = held; all = true; words = k; rng = g }

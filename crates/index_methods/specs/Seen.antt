@@ -29,7 +29,7 @@ abbrev pub AllMarked : List ℕ → List ℕ → Type 0
 AllMarked l [] = Unit {0}
 AllMarked l (v ∷ vs) = Marked l v × AllMarked l vs
 
--- what setting both bits of an index does: it clears none, and where the answer is no, the index is none of those seen
+-- what setting both bits of an index does: it clears none, and if the answer is no, the index is none of those seen
 pub record Sighting (v : ℕ) (l l′ : List ℕ) (was : Bool) : Type 0 where
   pub new : (vs : List ℕ) → AllMarked l vs → was ≡ false → member v vs ≡ false
   pub marked : Marked l′ v

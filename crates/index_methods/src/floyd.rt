@@ -38,7 +38,7 @@ fn place(indices: &mut [u32], count: usize, t: u32, j: u32)
     indices[count] = t;
 }
 
-// Puts a sample of `amount` indices below `length` at the front of `indices`; where the budget ends first, what the finished draws give, each with its
+// Puts a sample of `amount` indices below `length` at the front of `indices`; if the budget ends first, what the finished draws give, each with its
 // replacement. The values drawn can be inferred from the sample by working backwards from the last entry, so each sample comes from one list of
 // draws: `floyd` of `IndexShares`. The definition is `floydOf`.
 pub fn sample_floyd(

@@ -63,7 +63,7 @@ fn swap_front(
 }
 
 // Puts a sample of `amount` indices below `length` at the front of `indices`, and leaves all indices below `length`, as they were
-// exchanged, at the front of `scratch`. Where the budget ends first, the finished exchanges stand in `scratch` and `indices` is not touched.
+// exchanged, at the front of `scratch`. If the budget ends first, the finished exchanges stand in `scratch` and `indices` is not touched.
 // Each sample comes from one list of draws: `in-place` of `IndexShares`. The definition is `arranged`.
 pub fn sample_inplace(
     rng: Xoshiro256PlusPlus,
@@ -80,7 +80,7 @@ pub fn sample_inplace(
     let reading = swap_front(rng, length, amount, budget, scratch);
     let after = reading.rng;
     let all = reading.all;
-    // Where the budget ended first, none is copied.
+    // If the budget ended first, none is copied.
     let count = if all { amount } else { 0 };
     copy_front(scratch, count as usize, indices);
     FoundIndices {

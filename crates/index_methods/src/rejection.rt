@@ -56,7 +56,7 @@ fn find_all(
     }
 }
 
-// Puts a sample of `amount` indices below `length` at the front of `indices`; where the budget is used up before, those found so far, in
+// Puts a sample of `amount` indices below `length` at the front of `indices`; if the budget is used up before, those found so far, in
 // order. Each sample comes from equally many lists of draws: `rejection` of `IndexShares`. The definition is `foundOf`.
 pub fn sample_rejection(
     rng: Xoshiro256PlusPlus,

@@ -1,5 +1,5 @@
 // A filter before the search of the indices found. Each index has two bits of a row of words, and both are set once it is found, so an
-// index with a bit that is not set is new. Where both are set the search decides. Nothing that a caller sees depends on the filter.
+// index with a bit that is not set is new. If both are set the search decides. Nothing that a caller sees depends on the filter.
 ghost use mathlib.Core.Bool.{not};
 ghost use mathlib.Core.List.{_∷_};
 ghost use mathlib.Core.Path.{_≡_};

@@ -1,4 +1,4 @@
--- The shares of the three methods: how many lists of draws give an ordered sample. A sample of n is a list of distinct numbers below n.
+-- The shares of the three methods: how many lists of draws give an ordered sample. A sample of n is a list of distinct numbers below n (SCOPE 16.3 to 16.6).
 use mathlib.Core.Path.{_≡_}
 use mathlib.Core.Bool.{Bool, true, false}
 use mathlib.Core.List.{List, []}
@@ -28,14 +28,14 @@ pub record IndexShares : Type 0 where
   -- rejection gives every sample from equally many lists of m draws below n, for every m
   pub rejection : (n amount m : ℕ) (s t : List ℕ) → SampleOf n amount s → SampleOf n amount t
       → countLists (λ ds. gives (rejectionOf amount ds) s) (replicate m n) ≡ countLists (λ ds. gives (rejectionOf amount ds) t) (replicate m n)
-  -- and from at least one where there are draws enough
+  -- and from at least one if there are draws enough
   pub rejection-some : (n amount m : ℕ) (target : List ℕ) → 0 < n → amount ≤ m → SampleOf n amount target
       → 0 < countLists (λ ds. gives (rejectionOf amount ds) target) (replicate m n)
   -- what each method gives from draws within their bounds is a sample
   pub floyd-sample : (n amount : ℕ) (ds : List ℕ) → amount ≤ n → Within ds (floydBounds n amount) → SampleOf n amount (floydOf n amount ds)
   pub in-place-sample : (n amount : ℕ) (ds : List ℕ) → amount ≤ n → Within ds (falling n amount) → SampleOf n amount (take amount (arranged n ds))
   pub rejection-sample : (n amount : ℕ) (ds l : List ℕ) → Below n ds → rejectionOf amount ds ≡ some l → SampleOf n amount l
-  -- what is found while words are read is the sample that the accepted words give, and where it is not all, they give none
+  -- what is found while words are read is the sample that the accepted words give, and if it is not all, they give none
   pub words-give : (n amount budget : ℕ) (g : Xoshiro256PlusPlus) → foundOf n amount budget g .all ≡ true
       → rejectionOf amount (acceptedOf n budget g) ≡ some (foundOf n amount budget g .indices)
   pub words-lack : (n amount budget : ℕ) (g : Xoshiro256PlusPlus) → foundOf n amount budget g .all ≡ false

@@ -1,4 +1,4 @@
--- What a view of drawn items shows, and how many are still to be shown.
+-- What a view of drawn items shows, and how many are still to be shown (SCOPE 15.4 to 15.6).
 use mathlib.Core.Bool.{cond, _&&_}
 use mathlib.Core.List.{List, [], _∷_}
 use Prim.Native.Nat.{ℕ, _+_, _-_}
@@ -24,7 +24,7 @@ pub record Showing : Type 0 where
 abbrev pub shows : Shown → Showing
 shows r = record { answer = answerOfItem (r .item); place = r .place }
 
--- the item at the drawn index, and one place on; past the last index, or at an index not below the items' count, none and the same place
+-- the item that the index at the place names, and one place on; if no index is left, or it names no item, none and the same place
 unfoldable pub showAt : (items indices : List ℕ) (place : ℕ) → Showing
 showAt items indices k =
     cond (ltb k (length indices) && ltb (getD indices k 0) (length items))

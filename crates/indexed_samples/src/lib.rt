@@ -16,15 +16,14 @@ pub struct Shown {
     pub place: usize,
 }
 
-// The caller's items, the drawn indices and the next place.
+// References to the items and to the indices that were drawn, and the place that is next (SCOPE 15.1).
 pub struct IndexedSamples<'a> {
     pub items: &'a [u32],
     pub indices: &'a [u32],
     pub place: usize,
 }
 
-// The item at the index that stands at a place, and one place on; past the last index, or at an index not below the items' count, none and the
-// same place. For callers that hold the slices themselves, at one lifetime as the view has them. The definition is `showAt`.
+// The item that the index at a place names, and one place on; if no index is left, or it names no item, none and the same place. For callers that hold the slices themselves, at one lifetime as the view has them. The definition is `showAt`.
 pub fn show_at<'a>(items: &'a [u32], indices: &'a [u32], place: usize) -> Shown
     ensures { λ r. ⌜ shows r ≡ showAt (now (items .entry)) (now (indices .entry)) place ⌝ }
 {
@@ -55,7 +54,7 @@ pub fn remaining(indices: &[u32], place: usize) -> usize
 }
 
 impl<'a> IndexedSamples<'a> {
-    // The item at the next place, to which the view moves on: `show_at` of its parts. The items and the indices stay.
+    // The item at the next place, to which the view moves on (SCOPE 15.4): `show_at` of its parts. The items and the indices stay.
     pub fn next(&mut self) -> Item
         ensures { λ r. ⌜ (answerOfItem r ≡ shownBy (now (self .entry)) .answer) × (now (self .exit) ≡ moved (now (self .entry))) ⌝ }
     {

@@ -1,4 +1,4 @@
--- What a fill leaves behind: the answer, the words read, the generator and the buffer.
+-- What a fill leaves behind: the answer, the words read, the generator and the buffer (SCOPE 10).
 use mathlib.Core.Path.{_≡_}
 use mathlib.Core.Bool.{cond}
 use mathlib.Core.List.{List, [], _∷_}
@@ -44,7 +44,7 @@ ended r buf = record { answer = answerOf (r .outcome) (r .count); words = r .wor
 unfoldable pub refuses : Refusal → Xoshiro256PlusPlus → List ℕ → Filling
 refuses r g buf = record { answer = declined r; words = 0; rng = g; buf = buf }
 
--- the reservoir with draws made one after another, all or those before the unfinished one; where the items are no more than the slots, there is no draw
+-- the reservoir with draws made one after another, all or those before the unfinished one; if the items are no more than the slots, there is no draw
 unfoldable pub fills : Draws → (items buf : List ℕ) → Filling
 fills d items buf =
     record {

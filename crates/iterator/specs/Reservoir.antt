@@ -1,4 +1,4 @@
--- The reservoir: algorithm R of Vitter, "Random sampling with a reservoir", 1985 (document 01: feed for items, tray for buf).
+-- The reservoir: algorithm R of Vitter, "Random sampling with a reservoir", 1985 (SCOPE 10.2; owner: feed for items, tray for buf).
 use mathlib.Core.List.{List, [], _∷_, _++_}
 use Prim.Native.Nat.{ℕ, _-_}
 use lib.ListN.{length, take, drop, set}

@@ -16,7 +16,7 @@ pub record SetOf (a : ℕ) (items l : List ℕ) : Type 0 where
 
 -- The buffer has a = length buf slots and is lent with any contents; N = length items.
 pub record ReservoirShares : Type 0 where
-  -- a reservoir of a from N ≥ a distinct items ends as each set of a of them from exactly (N - a)! lists of bounded draws
+  -- SCOPE 16.8: for N ≥ a distinct items exactly (N - a)! lists of draws end with a given set of a items
   pub reservoir : (buf items target : List ℕ) → length buf ≤ length items → Distinct items → SetOf (length buf) items target
       → countLists (λ ks. sameSet (fillOf buf items ks) target) (fillBounds (length buf) (length items)) ≡ factorial (length items - length buf)
   -- what the buffer holds is always a distinct items, whatever is drawn

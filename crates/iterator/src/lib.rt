@@ -32,11 +32,11 @@ fn refused(why: Refusal, rng: Xoshiro256PlusPlus) -> Filled
 }
 
 // Fills the buffer with a sample of as many items as it has slots, and answers how many slots are filled: all of them, or as many as there are
-// items; slots past the items keep what they held. The definition is `sampleFillOf`. Each set of items has the same share of the lists of
+// items; slots past the items keep what they held. The definition is `sampleFillOf` (SCOPE 10). Each set of items has the same share of the lists of
 // draws (`ReservoirShares`); the order in the buffer is neither that of the items nor random. Declines a generator whose state is all zero (12)
 // and more than 2^32 - 2 items (10), and then reads no word and leaves the buffer as it was; a buffer of any length is good. The last refusal is 13: the
 // budget ends before a draw does. It is then read to its end, the buffer holds the first items and the replacements of all draws before the
-// unfinished one, and the count is 0. Cost: one copy for each slot, and a bounded draw for each item past the buffer's length, also where the buffer is
+// unfinished one, and the count is 0. Cost: one copy for each slot, and a bounded draw for each item past the buffer's length, even if the buffer is
 // empty. Items that are no more than the slots need no word, and so no budget.
 pub fn sample_fill(rng: Xoshiro256PlusPlus, items: &[u32], buf: &mut [u32], budget: u64) -> Filled
     ensures { λ r. ⌜ ended r (now (buf .exit)) ≡ sampleFillOf budget rng (now (items .entry)) (now (buf .entry)) ⌝ }

@@ -20,7 +20,7 @@ pub(crate) fn fill_front(items: &[u32], buf: &mut [u32]) -> usize
     count
 }
 
-// For each item from the place a on, a the buffer's length: one bounded draw, and the item replaces the slot drawn if it is below a. Where there
+// For each item from the place a on, a the buffer's length: one bounded draw, and the item replaces the slot drawn if it is below a. If there
 // are no such items nothing is read. It stops at a draw that the budget leaves unfinished.
 pub(crate) fn replace_slots(
     rng: Xoshiro256PlusPlus,

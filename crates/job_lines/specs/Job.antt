@@ -1,4 +1,4 @@
--- A job of a draw book (document 02, Q-4).
+-- A job of a draw book (SCOPE 17.2).
 use mathlib.Core.Bool.{Bool, _&&_}
 use mathlib.Core.List.{List}
 use Prim.Native.Nat.{ℕ}

@@ -1,4 +1,4 @@
--- Jobs as a text: a line for each.
+-- Jobs as a text: a line for each (SCOPE 17.14).
 use mathlib.Core.Bool.{Bool, true, cond}
 use mathlib.Core.List.{List, [], _∷_, _++_}
 use mathlib.Core.Option.{Option, none, some}

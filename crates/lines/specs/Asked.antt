@@ -13,7 +13,7 @@ use Rattle.lines.specs.declared.request.Request.{Request}
 unfoldable pub asked : (room : Entries) → Request → (slice : List ℕ) → Option Told
 asked room q slice = made room (callAt (q .call) .sizes (take (q .count) slice)) (callAt (q .call) .means (q .rng) (take (q .count) slice))
 
--- a request says what a line means, whatever the room is, where there is room for n numbers; and those it has lie in the slice
+-- a request says what a line means, whatever the room is, if there is room for n numbers; and those it has lie in the slice
 pub record Asks (q : Request) (slice : List ℕ) (n : ℕ) (line : List ℕ) : Type 0 where
   pub says : (room : Entries) → asked room q slice ≡ meaning room n line
   pub lies : q .count ≤ length slice

@@ -1,4 +1,4 @@
--- What a line means.
+-- What a line means (SCOPE 20.4).
 use mathlib.Core.Bool.{Bool, true, false, cond, _&&_}
 use mathlib.Core.List.{List, [], _∷_, map}
 use mathlib.Core.Option.{Option, none, some}
@@ -80,6 +80,6 @@ meaningOf room n [] = none
 meaningOf room n (name ∷ []) = none
 meaningOf room n (name ∷ (g ∷ words)) = meant room (callAt (placeIn name (map (λ (c : Call). c .name) calls))) (generatorOf g) (within n (numbersOf words))
 
--- what a line means where there is so much room for slices, and for so many numbers; none if it is no call
+-- what a line means if there is so much room for slices, and for so many numbers; none if it is no call
 unfoldable pub meaning : (room : Entries) (numbers : ℕ) (line : List ℕ) → Option Told
 meaning room n line = meaningOf room n (cut 32 line)

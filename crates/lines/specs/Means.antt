@@ -90,7 +90,7 @@ viewTold items slots s =
 unfoldable pub viewMeans : Meaning
 viewMeans g ns e = some (viewTold (spaced (e .b)) (e .a) (viewSampleOf (e .b) (at ns 1) (at ns 2) g (blank (e .c)) (blank (e .d))))
 
--- the tail from n on, and nothing where the shuffle is declined
+-- the tail from n on, and nothing if the shuffle is declined
 unfoldable pub shuffleTold : Shuffling → Told
 shuffleTold s =
     record {

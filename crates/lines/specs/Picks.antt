@@ -22,7 +22,7 @@ pub record Picking : Type 0 where
 unfoldable pub behind : List ℕ → Picking → Picking
 behind before p = record { indices = before ++ p .indices; number = p .number; left = p .left; rng = p .rng }
 
--- a pick from the budget b, and the later ones where it gives an index; a refusal ends them
+-- a pick from the budget b, and the later ones if it gives an index; a refusal ends them
 unfoldable pub follow : (b : ℕ) → Drawing → (later : Picking) → Picking
 follow b d later = cond (eqb (d .answer .number) 0) (behind (d .answer .values) later) (record { indices = []; number = d .answer .number; left = b - d .words; rng = d .rng })
 
@@ -31,7 +31,7 @@ unfoldable pub picksOf : (n : ℕ) → Xoshiro256PlusPlus → WeightedIndex → 
 picksOf zero g t sums b = record { indices = []; number = 0; left = b; rng = g }
 picksOf (suc n) g t sums b = follow b (pickOf g t sums b) (picksOf n (pickOf g t sums b .rng) t sums (b - pickOf g t sums b .words))
 
--- a row of picks ended so; where none was refused the slice holds the indices
+-- a row of picks ended so; if none was refused the slice holds the indices
 pub record Ended (r : Picks) (slice : List ℕ) (p : Picking) : Type 0 where
   pub number : answerOf (r .outcome) 0 .number ≡ p .number
   pub left : r .left ≡ p .left

@@ -1,4 +1,4 @@
--- A part of a slice, lent.
+-- A part of a slice, lent (SCOPE 9.7).
 use mathlib.Core.Path.{_≡_}
 use mathlib.Core.List.{List}
 use Prim.Native.Nat.{ℕ, _+_, _*_}

@@ -26,7 +26,7 @@ pub fn copy_front(source: &[u32], count: usize, target: &mut [u32])
     }
 }
 
-// The place n, or the length where n is above it.
+// The place n, or the length if n is above it.
 pub fn clipped(n: u64, length: usize) -> usize
     ensures { λ r. ⌜ r ≡ min n length ⌝ }
 {
@@ -37,7 +37,7 @@ pub fn clipped(n: u64, length: usize) -> usize
     length
 }
 
-// Lends the part of the slice from place n on: the shuffled tail, where n is what a shuffle answered. Above the length it is empty. Never
+// Lends the part of the slice from place n on (SCOPE 9.7): the shuffled tail, if n is what a shuffle answered. Above the length it is empty. Never
 // declines, reads no word and copies nothing. `Lent` says which entries of the caller's slice the part is. Both are lent by `&`, so neither
 // changes, and nothing is left to say.
 pub fn tail(items: &[u32], n: u64) -> &[u32]

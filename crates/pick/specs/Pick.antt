@@ -1,4 +1,4 @@
--- What `sample` answers (document 01: pick), and which words pick an item.
+-- What `sample` answers (SCOPE 14), and which words pick an item.
 use mathlib.Core.Bool.{Bool, cond, _&&_}
 use mathlib.Core.List.{List, map}
 use Prim.Native.Nat.{ℕ, _%_}

@@ -1,4 +1,4 @@
--- The shares of a pick: how many words pick each item. M is the number of words.
+-- The shares of a pick: how many words pick each item. M is the number of words (SCOPE 14.3, 16.10).
 use mathlib.Core.Path.{_≡_}
 use mathlib.Core.Bool.{true, false, not}
 use mathlib.Core.List.{List, [], _∷_}

@@ -32,8 +32,8 @@ pub struct Picked {
     pub rng: Xoshiro256PlusPlus,
 }
 
-// The step n where a sum is at most c, and else 0. No test decides, since the processor would guess that of a drawn number wrong half the
-// time, and then start again: 2^32 + c - sum has a 33rd bit exactly where the sum is at most c.
+// The step n if a sum is at most c, and else 0. No test decides, since the processor would guess that of a drawn number wrong half the
+// time, and then start again: 2^32 + c - sum has a 33rd bit exactly if the sum is at most c.
 fn step_over(n: usize, sum: u32, c: u32) -> usize
     ensures { λ r. ⌜ (r ≡ cond (leb sum c) n 0) × (r ≤ n) ⌝ }
 {
@@ -104,10 +104,10 @@ fn refused_pick(why: Refusal, rng: Xoshiro256PlusPlus) -> Picked
     }
 }
 
-// Picks an item by its weight (document 01: pick): the definition `pickOf`. A rejecting draw below the total gives c, and the answer is the
-// first index whose running sum is above c. Each word picks one item or is dropped (`PickReads`), and an item of weight w is picked by
+// Picks an item by its weight (SCOPE 14): the definition `pickOf`. A rejecting draw below the total gives c, and the lowest index
+// with a running sum above c is picked. Each word picks one item or is dropped (`PickReads`), and an item of weight w is picked by
 // w * floor(2^32 / total) of the 2^32 words (`PickShares`). Refuses with 12 an all-zero generator, with 10 a count above 2^32 - 2, with 7 a
-// table that is that of no weights, reading no word; and with 13 where `budget` words are read and all were dropped.
+// broken table (SCOPE 2.7), reading no word; and with 13 if `budget` words are read and all were dropped.
 // Cost: the check for 7 reads all sums, and the search for the item is a binary one.
 pub fn sample(
     rng: Xoshiro256PlusPlus,

@@ -7,7 +7,7 @@ use Rattle.refusal.specs.declared.Refusal.{Refusal}
 use Rattle.refusal.specs.declared.Outcome.{Outcome}
 use Rattle.refusal.specs.declared.Outcome.the-variants.{Done, Refused}
 
--- the number is 0 where the call was carried out, or else the row of the table of refusals
+-- the number is 0 if the call was carried out, or else the row of the table of refusals
 pub record Answer : Type 0 where
   pub number : ℕ
   pub values : List ℕ
@@ -20,7 +20,7 @@ done vs = record { number = 0; values = vs }
 abbrev pub declined : Refusal → Answer
 declined r = record { number = number r; values = [] }
 
--- declined for the cause that a check has found, or carried out with these values where it has found none
+-- declined for the cause that a check has found, or carried out with these values if it has found none
 abbrev pub decided : Option Refusal → List ℕ → Answer
 decided none vs = done vs
 decided (some why) vs = declined why
@@ -30,12 +30,12 @@ abbrev pub orElse : Option Refusal → Option Refusal → Option Refusal
 orElse none later = later
 orElse (some why) later = some why
 
--- what a refusal has left to count: no value where that is nothing
+-- what a refusal has left to count: no value if that is nothing
 abbrev pub counted : ℕ → List ℕ
 counted zero = []
 counted (suc n) = suc n ∷ []
 
--- The number and the values of each case of an outcome, beside which a call has a count or a place, as its own page says. Where it is carried
+-- The number and the values of each case of an outcome, beside which a call has a count or a place, as its own page says. If it is carried
 -- out that is the value. A refused call has no values, as everywhere, with one exception: refusal 13 of a sample has the count of the indices
 -- found, if there are any.
 abbrev pub answerOf : Outcome → ℕ → Answer

@@ -1,4 +1,4 @@
--- The numbers of document 01's table of refusals, which document 02 goes on with.
+-- The numbers of the refusals: SCOPE 2, row by row.
 use Prim.Native.Nat.{ℕ}
 use Rattle.refusal.specs.declared.Refusal.{Refusal}
 use Rattle.refusal.specs.declared.Refusal.the-variants.{AmountExceedsLength, NoWeights, Overflow, InsufficientNonZero, PlacesNotIncreasing, PlaceOutOfRange, InvalidTable, SliceTooShort, ScratchTooShort, TooLong, InvalidHints, ZeroState, BudgetExhausted, ContentsCutShort, UnknownKind, LayoutMismatch, PartsMismatch}

@@ -1,5 +1,4 @@
-// Why a call is declined. The rows of document 01's table, in its order, the comment at each with that table's word for it; then those that
-// document 02 adds.
+// Why a call is declined: the rows of SCOPE 2 in their order. The owner's word for a cause, if there is one, stands in quotes.
 ghost use mathlib.Core.Path.{_≡_};
 ghost use Rattle.refusal.specs.Answer.{answerOf};
 ghost use Rattle.refusal.specs.Number.{number};
@@ -7,23 +6,23 @@ ghost use Rattle.refusal.specs.Number.{number};
 pub enum Refusal {
     // "overdrawn": the amount is above the length.
     AmountExceedsLength,
-    // "no list": a new table has no weights.
+    // "no list": a new table is to have no weights.
     NoWeights,
     // "flooded": the weights sum above 2^32 - 1.
     Overflow,
-    // "dry": every weight is, or would be, 0.
+    // "dry": every weight is 0, or would be after a change.
     InsufficientNonZero,
-    // "out of turn": a change's place is not above the one before.
+    // "out of turn": a place of a change does not lie above the place before it.
     PlacesNotIncreasing,
-    // "no such row": a change's place is not below the count of weights.
+    // "no such row": a place of a change is none of the table.
     PlaceOutOfRange,
-    // "broken table": the cumulative weights are those of no list of weights, or too few are lent.
+    // "broken table": no list of weights has these cumulative weights and this total, or too few are lent.
     InvalidTable,
     // "short tray": a slice to be written has too few entries, or two lists that go together differ in length.
     SliceTooShort,
-    // "short bench": the in-place method is due and the scratch slice is shorter than the length.
+    // "short bench": the method in place is due, and the scratch slice is shorter than the length.
     ScratchTooShort,
-    // "too long": a length above 2^32 - 1, or a list or a table's count above 2^32 - 2.
+    // "too long": a length needs more than 32 bits, or the count of items, of weights or of a table is above 2^32 - 2.
     TooLong,
     // "false hints": the bounds on what remains do not hold of the items.
     InvalidHints,

@@ -1,4 +1,4 @@
--- What a call on a lent generator leaves behind: the answer, the words read and the generator.
+-- What a call on a lent generator leaves behind: the answer, the words read and the generator (SCOPE 15.8, 15.9).
 use mathlib.Core.Bool.{cond}
 use mathlib.Core.List.{[], _∷_}
 use Prim.Native.Nat.{ℕ}

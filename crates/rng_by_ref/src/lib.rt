@@ -43,7 +43,7 @@ pub fn step(rng: Xoshiro256PlusPlus) -> Stepped
     }
 }
 
-// Draws one word from the lent generator, which is advanced by it: the definition `nextOf`. An all-zero generator is declined (12): it stays
+// Draws one word from the lent generator, which is advanced by it (SCOPE 15.8): the definition `nextOf`. An all-zero generator is declined (12): it stays
 // as it was, and no word is read.
 pub fn next_u32(rng: &mut Xoshiro256PlusPlus) -> LentWord
     ensures { λ r. ⌜ ended (r .answer) (r .words) (now (rng .exit)) ≡ nextOf (now (rng .entry)) ⌝ }

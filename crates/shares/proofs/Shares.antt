@@ -1,4 +1,4 @@
--- Demand 3, proved: each field by the theorem of the crate that its definitions are from.
+-- The equal shares of SCOPE 16, proved: each field by the theorem of the crate that its definitions are from.
 -- Assumes nothing.
 use mathlib.Core.Path.{_≡_, refl, sym, ap, _∙_}
 use mathlib.Core.List.{List}

@@ -1,6 +1,5 @@
--- Demand 3: no ordered sample, shuffle, reservoir or weighted pick has more or less than its share. One field for each of its sentences, in
--- their order, over the definitions that the calls' contracts cite. A share is the number of lists of draws, or of words, that give a result:
--- `countLists p bounds` counts the lists with an entry below each bound that pass the test p, and `count` counts numbers. A stratified sample, which
+-- No outcome of a sample, a shuffle, a reservoir or a pick is favoured (SCOPE 16). The fields are over the definitions that the calls' contracts
+-- cite. A share is the number of lists of draws, or of words, that give a result: `countLists p bounds` counts the lists with an entry below each bound that pass the test p, and `count` counts numbers. A stratified sample, which
 -- joins samples of several parts, has a record of its own: `StratifiedShares` in crate `stratified_shares`.
 use mathlib.Core.Path.{_≡_}
 use mathlib.Core.Logic.{_⊎_}
@@ -37,41 +36,41 @@ tailShare amount items tail =
     countLists (λ cs. same (drop (length items - amount) (shuffleOf (length items - amount) items cs)) tail) (shuffleBounds (length items - amount) (length items))
 
 pub record EqualShares : Type 0 where
-  -- Floyd's method gives every ordered list of amount distinct indices below n from exactly one list of bounded draws,
+  -- SCOPE 16.3: of all lists of draws exactly one leads Floyd's method to a given ordered sample,
   pub floyd : (n amount : ℕ) (sample : List ℕ) → amount ≤ n → SampleOf n amount sample
       → countLists (λ ds. same (floydOf n amount ds) sample) (floydBounds n amount) ≡ 1
-  -- and so does the method in place.
+  -- SCOPE 16.4: and exactly one the method in place.
   pub in-place : (n amount : ℕ) (sample : List ℕ) → amount ≤ n → SampleOf n amount sample
       → countLists (λ ds. same (take amount (arranged n ds)) sample) (falling n amount) ≡ 1
-  -- For every m, rejection gives each of them from equally many lists of m draws,
+  -- SCOPE 16.5: whatever the number m of draws, any two ordered samples come to rejection from equally many lists,
   pub rejection : (n amount m : ℕ) (one other : List ℕ) → SampleOf n amount one → SampleOf n amount other
       → rejectionShare n amount m one ≡ rejectionShare n amount m other
-  -- never from none where there are draws enough.
+  -- and from one or more, if the draws are enough.
   pub rejection-some : (n amount m : ℕ) (sample : List ℕ) → 0 < n → amount ≤ m → SampleOf n amount sample → 0 < rejectionShare n amount m sample
-  -- `sample` reads words, and finds what the accepted ones among them give as draws: that sample,
+  -- SCOPE 16.6: `sample` reads words, and finds what the accepted ones among them give as draws: that sample,
   pub words-give : (n amount budget : ℕ) (g : Xoshiro256PlusPlus) → foundOf n amount budget g .all ≡ true
       → rejectionOf amount (acceptedOf n budget g) ≡ some (foundOf n amount budget g .indices)
-  -- and none where the budget ends first.
+  -- and none if the budget ends first.
   pub words-lack : (n amount budget : ℕ) (g : Xoshiro256PlusPlus) → foundOf n amount budget g .all ≡ false
       → rejectionOf amount (acceptedOf n budget g) ≡ none
-  -- A partial shuffle of distinct items gives each ordered tail from equally many lists of chunk values,
+  -- SCOPE 16.7: after a partial shuffle of distinct items any two ordered tails have equally many lists of chunk values,
   pub shuffle : (amount : ℕ) (items one other : List ℕ) → Distinct items → OrderedTail (length items - amount) items one
       → OrderedTail (length items - amount) items other → tailShare amount items one ≡ tailShare amount items other
-  -- never from none, whatever its amount.
+  -- and every one has some, however large the amount.
   pub shuffle-some : (amount : ℕ) (items tail : List ℕ) → Distinct items → OrderedTail (length items - amount) items tail → 0 < tailShare amount items tail
-  -- A reservoir of a from N ≥ a distinct items (a slots, whatever they held) ends as each set of a of them from exactly (N - a)! lists of draws.
+  -- SCOPE 16.8: with a slots, whatever they held, and N ≥ a distinct items, exactly (N - a)! lists of draws end with a given set of a items.
   pub reservoir : (slots items chosen : List ℕ) → length slots ≤ length items → Distinct items → SetOf (length slots) items chosen
       → countLists (λ ks. sameSet (fillOf slots items ks) chosen) (fillBounds (length slots) (length items)) ≡ factorial (length items - length slots)
-  -- For every list of change calls, refused ones included, from an accepted new table, the answers and the table are those of the plain list.
+  -- SCOPE 16.9: whatever changes follow an accepted new table, refused ones among them, answers and table are those of the plain list.
   pub history : (weights slice : List ℕ) (table : WeightedIndex) (sums : List ℕ) (changes : List Change) → History weights slice table sums changes
       → callsRun table sums changes ≡ plainRun weights slice changes
-  -- After it an item of weight w on the plain list is picked by exactly w times floor (2 ^ 32 / total) of the 2 ^ 32 words.
+  -- SCOPE 16.10: if the plain list then has the weight w for an item, exactly w times floor (2 ^ 32 / total) of the 2 ^ 32 words pick it.
   pub pick : (weights slice : List ℕ) (table : WeightedIndex) (sums : List ℕ) (changes : List Change) (item : ℕ) → History weights slice table sums changes
       → pickShare (2 ^ 32) table sums changes item ≡ getD (plainWeights weights changes) item 0 * (2 ^ 32 / total (plainWeights weights changes))
-  -- For every k from 1, each value of a bounded draw below r is that of floor (2 ^ (32 * k) / r) rows of k words, or of one more,
+  -- SCOPE 16.12: of all rows of k words, k from 1 on, each value of a bounded draw below r has floor (2 ^ (32 * k) / r), or one more,
   pub draw : (r k value : ℕ) → 0 < r → 0 < k → value < r
       → (boundedShare (2 ^ 32) r k value ≡ 2 ^ (32 * k) / r) ⊎ (boundedShare (2 ^ 32) r k value ≡ 2 ^ (32 * k) / r + 1)
-  -- 2 ^ (32 * k) mod r values having one more,
+  -- and 2 ^ (32 * k) mod r values have one more.
   pub draw-more : (r k : ℕ) → 0 < r → 0 < k → count (λ value. eqb (boundedShare (2 ^ 32) r k value) (2 ^ (32 * k) / r + 1)) r ≡ 2 ^ (32 * k) % r
-  -- and at most r - 1 rows leave the draw reading on.
+  -- SCOPE 16.13: no more than r - 1 rows leave it reading on.
   pub draw-open : (r k : ℕ) → 0 < r → r ≤ 2 ^ 32 → 0 < k → openShare (2 ^ 32) r k ≤ r - 1

@@ -1,4 +1,4 @@
--- The shares of the partial shuffle: how many lists of chunk values give an ordered tail.
+-- The shares of the partial shuffle: how many lists of chunk values give an ordered tail (SCOPE 16.7).
 use mathlib.Core.Path.{_≡_}
 use mathlib.Core.List.{List}
 use Prim.Native.Nat.{ℕ, _+_, _≤_, _<_}

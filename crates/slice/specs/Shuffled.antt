@@ -1,4 +1,4 @@
--- What a shuffle leaves behind: the answer, the words read, the generator and the slice.
+-- What a shuffle leaves behind: the answer, the words read, the generator and the slice (SCOPE 9.1, 9.9).
 use mathlib.Core.Path.{_≡_}
 use mathlib.Core.Bool.{cond}
 use mathlib.Core.List.{List, [], _∷_}

@@ -82,7 +82,7 @@ fn shuffle_from(rng: Xoshiro256PlusPlus, items: &mut [u32], n: u64, budget: u64)
 // state is all zero (12) and more than 2^32 - 2 items (10), and then reads nothing and leaves the slice as it is. The last refusal is 13: the budget
 // ends before a draw does. It is then read to its end, the exchanges of all chunks before the unfinished one are made, and n is 0. Fewer than two
 // items, and an amount of 0, need no word, and so no budget. Cost: as many exchanges as are asked for, and a bounded draw for each chunk of them, 11 or
-// fewer exchanges to a chunk. The definition is `partialShuffleOf`; each ordered tail of distinct items has the same share of the lists of chunk
+// fewer exchanges to a chunk. The definition is `partialShuffleOf` (SCOPE 9); each ordered tail of distinct items has the same share of the lists of chunk
 // values (`ShuffleShares`).
 pub fn partial_shuffle(
     rng: Xoshiro256PlusPlus,
@@ -119,7 +119,7 @@ pub fn partial_shuffle(
 }
 
 // Shuffles the whole slice: a partial shuffle whose amount is the length. Fewer than two items are left as they are, and no word is read for
-// them. The definition is `wholeShuffleOf`; refusals, what a 13 leaves, cost and shares are those of `partial_shuffle`.
+// them. The definition is `wholeShuffleOf` (SCOPE 9.8); refusals, what a 13 leaves, cost and shares are those of `partial_shuffle`.
 pub fn shuffle(rng: Xoshiro256PlusPlus, items: &mut [u32], budget: u64) -> Shuffled
     ensures { λ r. ⌜ ended r (now (items .exit)) ≡ wholeShuffleOf budget rng (now (items .entry)) ⌝ }
 {

@@ -8,7 +8,7 @@ use Rattle.crossover.specs.Method.{methodOf}
 use Rattle.crossover.specs.declared.Method.{Method}
 use Rattle.crossover.specs.declared.Method.the-variants.{Floyd, InPlace, Rejection}
 
--- a part: its length, and how many of its indices are wanted (document 02: a gate of a mill)
+-- a part: its length, and how many of its indices are wanted (SCOPE 8.2; owner: a gate of a mill)
 pub record Part : Type 0 where
   pub size : ℕ
   pub amount : ℕ

@@ -61,7 +61,7 @@ partsFrom start [] budget g indices scratch = finished g indices scratch
 partsFrom start (p ∷ ps) budget g indices scratch =
     followed (placed start (sampleOf (p .size) (p .amount) budget g indices scratch)) budget (partsFrom (start + p .size) ps)
 
--- the first refusal that applies to any of the parts, else the parts in turn (document 02: tray for indices, work slice for scratch, allowance for budget)
+-- the first refusal that applies to any of the parts, else the parts in turn (SCOPE 8.1; owner: tray for indices, work slice for scratch, allowance for budget)
 unfoldable pub sampleStratifiedOf : (lengths amounts : List ℕ) (budget : ℕ) → Xoshiro256PlusPlus → List ℕ → List ℕ → Sampling
 sampleStratifiedOf lengths amounts budget g indices scratch =
     cond (zeroState g) (refuses ZeroState g indices scratch)

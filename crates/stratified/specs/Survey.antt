@@ -7,7 +7,7 @@ use lib.Dec.{ltb}
 use Rattle.stratified.specs.Parts.{Part, wholeOf, wantedOf, someExceeds, someLacks}
 use Rattle.stratified.specs.declared.Survey.{Survey}
 
--- each finding, where those before it give no refusal
+-- each finding, if those before it give no refusal
 pub record Surveyed (ps : List Part) (entries : ℕ) (s : Survey) : Type 0 where
   pub too-long : s .«is_too_long» ≡ ltb (2 ^ 32 - 1) (wholeOf ps)
   pub exceeds : s .«is_too_long» ≡ false → s .exceeds ≡ someExceeds ps

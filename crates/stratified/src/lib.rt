@@ -56,7 +56,7 @@ fn least(a: u64, b: u64) -> u64
     if a < b { a } else { b }
 }
 
-// One pass over the parts, before a word is read (`Surveyed`). It ends where the whole is too long, which no later part can mend.
+// One pass over the parts, before a word is read (`Surveyed`). It ends if the whole is too long, which no later part can mend.
 fn survey_parts(lengths: &[u64], amounts: &[u64], entries: u64) -> Survey
     requires { ⌜ length (now lengths) ≡ length (now amounts) ⌝ }
     ensures { λ r. ⌜ Surveyed (partsOf (now (lengths .entry)) (now (amounts .entry))) entries r ⌝ }
@@ -115,7 +115,7 @@ fn written(outcome: Outcome, count: usize, words: u64, rng: Xoshiro256PlusPlus) 
     }
 }
 
-// Samples one part, and adds its start to what was written, also where the budget has run out: the definition `placed` of `sampleOf`.
+// Samples one part, and adds its start to what was written, also if the budget has run out: the definition `placed` of `sampleOf`.
 fn sample_part(
     rng: Xoshiro256PlusPlus,
     start: u64,
@@ -187,11 +187,11 @@ fn sample_parts(
     written(Outcome::Done, at, words, after)
 }
 
-// Draws `amounts[i]` distinct indices of each part i, in random order, part after part, to the front of `indices`: the definition `sampleStratifiedOf`.
+// Draws `amounts[i]` distinct indices of each part i, in random order, part after part, to the front of `indices` (SCOPE 8): the definition `sampleStratifiedOf`.
 // Part i has `lengths[i]` indices, which begin where those of the parts before it end. Each part is drawn by `index::sample`, by the method that its own
 // length and amount give, and all of them from one generator and one budget. No list of all parts has more or less than its share
 // (`StratifiedShares`). The count is that of all indices written; entries past it never change. `scratch` is left as the parts leave it one after another.
-// Where a word is needed and `budget` words are read, the call is refused with 13. The finished parts stand in `indices` then, and behind them what a
+// If a word is needed and `budget` words are read, the call is refused with 13. The finished parts stand in `indices` then, and behind them what a
 // sample of the unfinished part leaves, its start added; the count takes in both.
 // Any other refusal is settled for all parts before a word is read, and changes nothing: 12 for an all-zero generator, 17 for lists that differ in length
 // or parts of more than 2^32 - 1 indices together, 1 for an amount above its part's length, 8 for fewer entries of `indices` than all amounts together, 9

@@ -1,4 +1,4 @@
--- How a stratified sample ends.
+-- How a stratified sample ends (SCOPE 8.6 to 8.8).
 use mathlib.Core.Path.{_≡_}
 use mathlib.Core.Logic.{_⊎_}
 use mathlib.Core.Bool.{false}
@@ -14,7 +14,7 @@ use Rattle.stratified.specs.Parts.{Part, partsOf, wholeOf, wantedOf, mismatched
 use Rattle.stratified.specs.Stratified.{countOf, finished, followed, partsFrom, sampleStratifiedOf}
 
 pub record StratifiedEnds : Type 0 where
-  -- Where none of the refusals in front applies, all is drawn or the budget is used up: no part is declined on the way for another cause.
+  -- If none of the refusals in front applies, all is drawn or the budget is used up: no part is declined on the way for another cause.
   pub drawn-or-spent : (lengths amounts : List ℕ) (budget : ℕ) (g : Xoshiro256PlusPlus) (indices scratch : List ℕ) → zeroState g ≡ false
       → mismatched lengths amounts ≡ false → someExceeds (partsOf lengths amounts) ≡ false → wantedOf (partsOf lengths amounts) ≤ length indices
       → someLacks (length scratch) (partsOf lengths amounts) ≡ false

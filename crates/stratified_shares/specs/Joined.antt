@@ -1,4 +1,4 @@
--- The joined list that draws give: the draws of all parts as one list, each part's behind those of the parts before it.
+-- The joined list that draws give: the draws of all parts as one list, each part's behind those of the parts before it (SCOPE 16.15).
 use mathlib.Core.Path.{_≡_}
 use mathlib.Core.Bool.{Bool, true, false, cond, _||_}
 use mathlib.Core.List.{List, [], _∷_, _++_, map}
@@ -21,7 +21,7 @@ use Rattle.stratified.specs.Parts.{Part}
 abbrev pub methodFor : Part → Method
 methodFor p = methodOf (p .size) (p .amount)
 
--- the bounds of a part's draws; where it rejects, m draws are looked at
+-- the bounds of a part's draws; if it rejects, m draws are looked at
 unfoldable pub boundsBy : Method → (n amount m : ℕ) → List ℕ
 boundsBy Floyd n amount m = floydBounds n amount
 boundsBy InPlace n amount m = falling n amount
@@ -33,7 +33,7 @@ sampleBy Floyd n amount ds = cond (ltb (length ds) amount) none (some (floydOf n
 sampleBy InPlace n amount ds = cond (ltb (length ds) amount) none (some (take amount (arranged n ds)))
 sampleBy Rejection n amount ds = rejectionOf amount ds
 
--- ---- all parts: m has a number for each part, which counts where that part rejects
+-- ---- all parts: m has a number for each part, which counts if that part rejects
 
 abbrev pub partBounds : Part → (m : ℕ) → List ℕ
 partBounds p m = boundsBy (methodFor p) (p .size) (p .amount) m
@@ -47,7 +47,7 @@ unfoldable pub stratifiedBounds : List Part → (m : ℕ → ℕ) → List ℕ
 stratifiedBounds [] m = []
 stratifiedBounds (p ∷ ps) m = partBounds p (m 0) ++ stratifiedBounds ps (later m)
 
--- a part's sample with its start added, before the list of the parts behind it; none where there is none of either
+-- a part's sample with its start added, before the list of the parts behind it; none if there is none of either
 abbrev pub joinedWith : (start : ℕ) → Option (List ℕ) → Option (List ℕ) → Option (List ℕ)
 joinedWith start none rest = none
 joinedWith start (some l) none = none

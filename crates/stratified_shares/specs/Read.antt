@@ -26,7 +26,7 @@ drawsBy Rejection n amount budget g = accepting n g (foundOf n amount budget g)
 abbrev pub partDraws : Part → (budget : ℕ) → Xoshiro256PlusPlus → Draws
 partDraws p budget g = drawsBy (methodFor p) (p .size) (p .amount) budget g
 
--- the draws of each part that is begun, under one budget: where a part's are not all, no other follows
+-- the draws of each part that is begun, under one budget: if a part's are not all, no other follows
 unfoldable pub drawsOfParts : List Part → (budget : ℕ) → Xoshiro256PlusPlus → List (List ℕ)
 drawsOfParts [] budget g = []
 drawsOfParts (p ∷ ps) budget g =

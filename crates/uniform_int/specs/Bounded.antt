@@ -1,4 +1,4 @@
--- The bounded draw below r, on a list of words (document 01: bounded draw; document 02, Q-6: rand's feature `unbiased`, Canon's method). It reads on
+-- The bounded draw below r, on a list of words (SCOPE 5.1 to 5.3; rand's feature `unbiased`, Canon's method). It reads on
 -- while more words could change its value. M is the number of words, 2 ^ 32 in the generator's.
 use mathlib.Core.Bool.{Bool, true, false}
 use mathlib.Core.List.{List, [], _∷_, _++_}

@@ -1,4 +1,4 @@
--- Bounded draws made one after another under a budget, each below its own bound.
+-- Bounded draws made one after another under a budget, each below its own bound (SCOPE 5.6).
 use mathlib.Core.Bool.{Bool, true, false}
 use mathlib.Core.List.{List, [], _∷_}
 use Prim.Native.Nat.{ℕ, _-_}

@@ -1,4 +1,4 @@
--- What the bounded draws read and give, besides their shares. M is the number of words.
+-- What the bounded draws read and give, besides their shares. M is the number of words (SCOPE 5.3 to 5.7).
 use mathlib.Core.Path.{_≡_}
 use mathlib.Core.Bool.{Bool, true, false}
 use mathlib.Core.List.{List, [], _∷_, _++_}
@@ -48,19 +48,19 @@ abbrev pub Positive : List ℕ → Type 0
 Positive [] = Unit {0}
 Positive (r ∷ rs) = (0 < r) × Positive rs
 
--- the generator afterwards is the one after so many words, which are within the budget, and all of it where a draw is not finished
+-- the generator afterwards is the one after so many words, which are within the budget, and all of it if a draw is not finished
 pub record ReadsInTurn (budget : ℕ) (g : Xoshiro256PlusPlus) (d : Draws) : Type 0 where
   pub after : d .rng ≡ steps (d .words) g
   pub few : d .words ≤ budget
   pub spent : d .all ≡ false → d .words ≡ budget
 
--- a value below each bound as far as draws are finished, and below all of them where all are
+-- a value below each bound as far as draws are finished, and below all of them if all are
 pub record GivesInTurn (rs : List ℕ) (d : Draws) : Type 0 where
   pub within : Within (d .values) (take (length (d .values)) rs)
   pub all : d .all ≡ true → Within (d .values) rs
 
 pub record DrawReads : Type 0 where
-  -- the generator after a draw is the one after its words, which are no more than the n that it may read; and all n where it has no value
+  -- the generator after a draw is the one after its words, which are no more than the n that it may read; and all n if it has no value
   pub after : (r n : ℕ) (g : Xoshiro256PlusPlus) → boundedWithin r n g 0 .rng ≡ steps (boundedWithin r n g 0 .words) g
   pub few : (r n : ℕ) (g : Xoshiro256PlusPlus) → boundedWithin r n g 0 .words ≤ n
   pub spent : (r n : ℕ) (g : Xoshiro256PlusPlus) → boundedWithin r n g 0 .answer .values ≡ [] → boundedWithin r n g 0 .words ≡ n

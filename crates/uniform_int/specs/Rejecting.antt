@@ -1,4 +1,4 @@
--- The rejecting draw below r (document 01: rejecting draw): words are read until one is accepted, or as many as the budget allows.
+-- The rejecting draw below r (SCOPE 5.8): words are read until one is accepted, or as many as the budget allows.
 -- M is the number of outputs of `read`: 2 ^ 32 for the generator's words.
 use mathlib.Core.Bool.{Bool, true, false}
 use mathlib.Core.List.{[], _∷_}

@@ -1,4 +1,4 @@
--- The shares of the two draws: how many words, or rows of words, give each value. M is the number of words.
+-- The shares of the two draws: how many words, or rows of words, give each value. M is the number of words (SCOPE 16.11 to 16.13).
 use mathlib.Core.Path.{_≡_}
 use mathlib.Core.Logic.{_⊎_}
 use mathlib.Core.Bool.{not, _&&_}

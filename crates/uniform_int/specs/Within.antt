@@ -1,4 +1,4 @@
--- The bounded draw from a generator, under a budget: the draw on the generator's next words.
+-- The bounded draw from a generator, under a budget: the draw on the generator's next words (SCOPE 5.7).
 use Prim.Native.Nat.{ℕ, _+_, _^_}
 use Rattle.xoshiro256plusplus.specs.Generator.{steps, nextWords}
 use Rattle.xoshiro256plusplus.specs.declared.Xoshiro256PlusPlus.{Xoshiro256PlusPlus}

@@ -72,7 +72,7 @@ fn add_word(rng: Xoshiro256PlusPlus, range: u32, low: u32) -> Added
 }
 
 // What the words to come add to the value of a draw: 1 if they carry into it, and else 0. While a draw reads on all bits above `low`, the lower word of its last
-// product, are set. So the next product carries if its upper word makes the sum pass them; and where all bits of the sum are set, the words behind
+// product, are set. So the next product carries if its upper word makes the sum pass them; and if all bits of the sum are set, the words behind
 // decide. That is rand's loop, which keeps one lower word and one carry. It calls itself instead: a loop would be compiled into every loop that draws, and
 // take its registers. One draw in some 2^64 / r gets to a third word, and one in 2^32 of these to a fourth.
 fn carry(rng: Xoshiro256PlusPlus, range: u32, low: u32, words: u64, budget: u64) -> Sampled
@@ -172,7 +172,7 @@ fn sample_single_inclusive(
 }
 
 // The bounded draw: a number below `range`, within a budget of which `words` are used up before. It reads on while more words could change its value, and
-// where the budget ends first, it is read to its end. The definition is `boundedWithin`. Each value has its share of the rows of k words, or one row
+// if the budget ends first, it is read to its end. The definition is `boundedWithin`. Each value has its share of the rows of k words, or one row
 // more, for every k (`DrawShares`). rand: `random_range`.
 pub fn random_range(rng: Xoshiro256PlusPlus, range: u32, words: u64, budget: u64) -> Sampled
     requires { ⌜ 0 < range ⌝ }
@@ -208,7 +208,7 @@ impl UniformInt {
         }
     }
 
-    // Words are read until one is accepted, or until the budget is used up, of which `words` are used before. The definition is
+    // Words are read until one is accepted, or until the budget is used up, of which `words` are used before (SCOPE 5.8). The definition is
     // `rejectingAt`, and with the threshold of `new` it is `rejecting`: each value has its share of the words (`DrawShares`).
     pub fn sample(self, rng: Xoshiro256PlusPlus, words: u64, budget: u64) -> Sampled
         ensures { λ s. ⌜ shown s ≡ rejectingAt (2 ^ 32) word (self .range) (self .thresh) (budget - words) rng words ⌝ }

@@ -1,4 +1,4 @@
--- After any list of changes from an accepted new table, the answers and the table are those of the plain list of weights.
+-- Histories: after any list of changes from an accepted new table, answers and table are those of the plain list of weights.
 -- Assumes nothing.
 use mathlib.Core.Path.{_≡_, refl, sym, ap, ap₂, _∙_}
 use mathlib.Core.Bool.{Bool, true, false, cond}

@@ -1,4 +1,4 @@
--- What `update_weights` leaves behind.
+-- What `update_weights` leaves behind (SCOPE 13.3 to 13.6).
 use mathlib.Core.Path.{_≡_}
 use mathlib.Core.Bool.{Bool, false, cond, _||_}
 use mathlib.Core.List.{List, [], _∷_}

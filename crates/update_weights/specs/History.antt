@@ -22,7 +22,7 @@ pub record Change : Type 0 where
   pub places : List ℕ
   pub weights : List ℕ
 
--- ---- the plain machine: a list of weights, fed only the new table's weights and each change's two lists
+-- ---- the plain machine: it holds weights, and sees nothing but those of the new table and the lists of the changes (SCOPE 13.10)
 
 -- the first refusal of a change; no table can be broken here
 unfoldable pub plainRefusal : (ws : List ℕ) → Change → Option Refusal
@@ -95,7 +95,7 @@ pub record History (ws l : List ℕ) (t : WeightedIndex) (s : List ℕ) (cs : Li
   pub changes : Weights32 cs
 
 pub record HistoryClaim : Type 0 where
-  -- For every list of changes, refused ones included, from any accepted new table, the answers and the table are those of the plain list.
+  -- SCOPE 16.9: whatever changes follow any accepted new table, refused ones among them, answers and table are those of the plain list.
   pub history : (ws l : List ℕ) (t : WeightedIndex) (s : List ℕ) (cs : List Change) → History ws l t s cs → callsRun t s cs ≡ plainRun ws l cs
   -- After it `weight` answers the plain list's weights,
   pub weights : (ws l : List ℕ) (t : WeightedIndex) (s : List ℕ) (cs : List Change) (place : ℕ) → History ws l t s cs

@@ -1,4 +1,4 @@
--- What a change leaves, what it is refused for, and in which order: each case of it, in plain words.
+-- What a change leaves, what it is refused for, and in which order: each case of it, in plain words (SCOPE 13.3 to 13.5).
 use mathlib.Core.Path.{_≡_}
 use mathlib.Core.Logic.{_⊎_}
 use mathlib.Core.Bool.{true, false}
@@ -49,7 +49,7 @@ pub record Replacing : Type 0 where
 pub record ChangeOrder : Type 0 where
   -- the table or the list of weights is too long: 10,
   pub long : (t : WeightedIndex) (s ps vs : List ℕ) → (mostWeights < t .count) ⊎ (mostWeights < length vs) → updateOf t s ps vs ≡ refuses TooLong s
-  -- or neither is, and the table is that of no weights: 7,
+  -- or neither is, and the table is broken: 7,
   pub broken : (t : WeightedIndex) (s ps vs : List ℕ) → t .count ≤ mostWeights → length vs ≤ mostWeights → brokenTable t s ≡ true
       → updateOf t s ps vs ≡ refuses InvalidTable s
   -- or it is not, and the lists differ in length: 8.

@@ -86,12 +86,12 @@ fn rewrite(table: WeightedIndex, cumulative_weights: &mut [u32], places: &[u64],
     }
 }
 
-// Gives each of `places` its weight of `weights`: the definition `updateOf`. Answers the record of the changed table, with its running sums
-// over the old ones; entries past them never change. An empty change is accepted. After any list of changes, refused ones included, the
-// answers and the table are those of a plain list of weights (`HistoryClaim`), and every item has its share of the picks (`PickShares`).
-// A refusal changes nothing: 10 for a count or a list of weights above 2^32 - 2, 7 for a table that is that of no weights, 8 where the lists
+// Gives each of `places` its weight of `weights` (SCOPE 13.3): the definition `updateOf`. Answers the record of the changed table, with its running sums
+// over the old ones; entries past them never change. An empty change is accepted. After any list of changes, refused ones among them,
+// answers and table are those of a plain list of weights (`HistoryClaim`), and every item has its share of the picks (`PickShares`).
+// A refusal changes nothing: 10 for a count or a list of weights above 2^32 - 2, 7 for a broken table (SCOPE 2.7), 8 if the lists
 // differ in length; then for each item in turn 5 for a place that is not above the one before, 6 for a place that is not below the count;
-// after all items 3 where the changed weights add up to more than 2^32 - 1, 4 where every weight would be 0. The first that applies is given
+// after all items 3 if the changed weights add up to more than 2^32 - 1, 4 if every weight would be 0. The first that applies is given
 // (`ChangeOrder`).
 // Cost: the check for 7 reads all sums, and those from the first place on are written.
 pub fn update_weights(

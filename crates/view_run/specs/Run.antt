@@ -1,4 +1,4 @@
--- What a view of drawn items shows when it is run to its end, and what the call that draws and runs one leaves behind.
+-- What a view of drawn items shows when it is run to its end, and what the call that draws and runs one leaves behind (SCOPE 20.8).
 use mathlib.Core.Path.{_≡_}
 use mathlib.Core.Bool.{cond}
 use mathlib.Core.List.{List, [], _∷_, _++_, map}
@@ -29,7 +29,7 @@ pub record Ran (items indices before after : List ℕ) (remained many : ℕ) : T
   pub shown : many ≡ min (length before) (length (shownOf items indices))
   pub slots : after ≡ take (length before) (shownOf items indices) ++ drop (length (shownOf items indices)) before
 
--- What the call leaves behind, where its draw left s: the run of what was drawn, and of the draw all but the slice of indices, which the view held.
+-- What the call leaves behind, if its draw left s: the run of what was drawn, and of the draw all but the slice of indices, which the view held.
 pub record ItemsShown (items : List ℕ) (s : Sampling) (work before after : List ℕ) (r : ItemsSample) : Type 0 where
   pub answer : answerOf (r .sampled .outcome) (r .sampled .count) ≡ s .answer
   pub words : r .sampled .words ≡ s .words
@@ -47,7 +47,7 @@ pub record ViewRuns : Type 0 where
   pub front : (items indices before after : List ℕ) (remained many : ℕ) → Ran items indices before after remained many
       → take many after ≡ take (length before) (shownOf items indices)
   pub same-length : (items indices before after : List ℕ) (remained many : ℕ) → Ran items indices before after remained many → length after ≡ length before
-  -- where the draw is not declined, every item drawn is shown, if there are slots enough
+  -- if the draw is not declined, every item drawn is shown, if there are slots enough
   pub shows-all : (items : List ℕ) (amount budget : ℕ) (g : Xoshiro256PlusPlus) (indices scratch before after : List ℕ) (remained many : ℕ)
       → (let s : Sampling = viewSampleOf (length items) amount budget g indices scratch in
       let drawn : List ℕ = drawnOf (s .answer) (s .indices) in

@@ -72,7 +72,7 @@ pub struct ItemsSample {
 
 // Draws a view by `view_sample::sample`, whose budget, slices, cost and refusals are these, and runs it by its `next`: the items that it shows go
 // to the front of the slots, until it shows none or no slot is left. On any refusal it shows none. The view holds the indices, so nothing is said
-// of their slice afterwards. `ItemsShown` says all the rest, and `ViewRuns` that no item drawn is missing where there are slots enough.
+// of their slice afterwards. `ItemsShown` says all the rest, and `ViewRuns` that no item drawn is missing if there are slots enough.
 pub fn sample_items(
     rng: Xoshiro256PlusPlus,
     items: &[u32],

@@ -161,7 +161,7 @@ below-at n (x ∷ l) (suc k) b h = below-at n l k (b .1) (omega arith)
 pub view-draws : ViewDraws
 view-draws =
     record {
-      never-overdrawn = other-number;
+      never-exceeds = other-number;
       draws = each-sample;
       shows-each = λ items indices amount k p h.
           let here : k < length indices = omega (arith, p .size) in

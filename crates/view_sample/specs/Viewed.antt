@@ -1,4 +1,4 @@
--- The draw that makes a view of drawn items, and the view that it makes.
+-- The draw that makes a view of drawn items, and the view that it makes (SCOPE 15.1 to 15.3).
 use mathlib.Core.Path.{_≡_}
 use mathlib.Core.Bool.{false, cond}
 use mathlib.Core.List.{List, [], _∷_}
@@ -24,11 +24,11 @@ viewSampleOf n amount budget g indices scratch =
     (cond (ltb (2 ^ 32 - 2) n) (refuses TooLong g indices scratch)
     (sampleOf n (min amount n) budget g indices scratch))
 
--- the indices that a view shows: as many as were drawn, and none where the draw was declined
+-- the indices that a view shows: as many as were drawn, and none if the draw was declined
 unfoldable pub drawnOf : Answer → List ℕ → List ℕ
 drawnOf a indices = cond (eqb (a .number) 0) (take (getD (a .values) 0 0) indices) []
 
--- What the call that makes a view leaves behind, of the items `from` and the indices lent as `to`, where its draw left s. Since the view holds
+-- What the call that makes a view leaves behind, of the items `from` and the indices lent as `to`, if its draw left s. Since the view holds
 -- the indices, the answer has their slice whole.
 pub record Viewed (from to : RefT (List ℕ)) (s : Sampling) (scratch : List ℕ) (r : ViewSample) : Type 0 where
   pub sampled : ended (r .sampled) (now (r .indices)) scratch ≡ s
@@ -41,9 +41,9 @@ pub record Viewed (from to : RefT (List ℕ)) (s : Sampling) (scratch : List ℕ
 -- what a view can be relied on for
 pub record ViewDraws : Type 0 where
   -- it is never declined for an amount above the length
-  pub never-overdrawn : (n amount budget : ℕ) (g : Xoshiro256PlusPlus) (indices scratch : List ℕ)
+  pub never-exceeds : (n amount budget : ℕ) (g : Xoshiro256PlusPlus) (indices scratch : List ℕ)
       → eqb (viewSampleOf n amount budget g indices scratch .answer .number) (number AmountExceedsLength) ≡ false
-  -- where it is not declined, it holds as many indices as the clipped amount, distinct and below the number of items
+  -- if it is not declined, it holds as many indices as the clipped amount, distinct and below the number of items
   pub draws : (n amount budget : ℕ) (g : Xoshiro256PlusPlus) (indices scratch : List ℕ)
       → (let s : Sampling = viewSampleOf n amount budget g indices scratch in s .answer .number ≡ 0 → SampleOf n (min amount n) (drawnOf (s .answer) (s .indices)))
   -- and of such indices it shows an item at each place

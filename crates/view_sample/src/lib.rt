@@ -47,7 +47,7 @@ fn whole<'a>(indices: &'a mut [u32]) -> &'a [u32]
     &indices[..]
 }
 
-// The part of the slice that a view shows: the indices drawn, and nothing where the draw was declined.
+// The part of the slice that a view shows: the indices drawn, and nothing if the draw was declined.
 fn drawn<'a>(indices: &'a [u32], sampled: IndexSample) -> &'a [u32]
     ensures { λ r. ⌜ Lent (indices .entry) r 0 (drawnOf (answerOf (sampled .outcome) (sampled .count)) (now (indices .entry))) ⌝ }
 {
@@ -65,7 +65,7 @@ pub struct ViewSample<'a> {
     pub sampled: IndexSample,
 }
 
-// Draws indices by `sample_indices` and shows the items at them; on any refusal the view shows nothing. The indices are lent for as long as the
+// Draws indices by `sample_indices` and shows the items at them (SCOPE 15); on any refusal the view shows nothing. The indices are lent for as long as the
 // view is used, so the answer has their slice whole: with refusal 13 it holds what `index::sample` leaves. `Viewed` says all of it.
 pub fn sample<'a>(
     rng: Xoshiro256PlusPlus,

@@ -46,7 +46,7 @@ rises-next low [] all p h l = absurd (omega arith)
 rises-next low (x ∷ xs) all zero h l = rises-at x xs all 0 (rises-head low x xs all h .1) (omega arith) .0
 rises-next low (x ∷ xs) all (suc p) h l = rises-next x xs all p (rises-head low x xs all h .1) (omega arith)
 
--- ---- the same as document 01 says it: no sum falls, and none exceeds the total
+-- ---- the same as SCOPE 2.7 says it: no sum falls, and none exceeds the total
 
 pub rises-from : (low : ℕ) (xs : List ℕ) (all : ℕ) → low ≤ all → falls low xs ≡ false → exceeds all xs ≡ false → rises low xs all ≡ true
 unfolding rises falls exceeds

@@ -32,7 +32,7 @@ getD-le-total [] i = omega arith
 getD-le-total (w ∷ ws) zero = omega arith
 getD-le-total (w ∷ ws) (suc i) = omega (arith, getD-le-total ws i)
 
--- the total drops the old weight and adds the new
+-- the total after a change of one weight: less the old, and the new added
 pub total-set : (ws : List ℕ) (i v : ℕ) → i < length ws → total (set ws i v) + getD ws i 0 ≡ total ws + v
 unfolding total
 total-set [] i v h = absurd (omega arith)

@@ -23,7 +23,7 @@ answerOfMade (made.Refused why) = declined why
 abbrev pub recordIn : List ℕ → WeightedIndex
 recordIn l = record { count = getD l 0 0; «total_weight» = getD l 1 0 }
 
--- a weight, or no value where there is none at that place
+-- a weight, or no value if there is none at that place
 abbrev pub answerOfLooked : Looked → Answer
 answerOfLooked (looked.Weight w) = done (w ∷ [])
 answerOfLooked looked.Nothing = done []

@@ -1,4 +1,4 @@
--- What `weight` answers.
+-- What `weight` answers (SCOPE 13.7).
 use mathlib.Core.Bool.{cond}
 use mathlib.Core.List.{List, [], _∷_}
 use Prim.Native.Nat.{ℕ}

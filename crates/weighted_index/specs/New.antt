@@ -1,4 +1,4 @@
--- What `new` leaves behind.
+-- What `new` leaves behind (SCOPE 13.2).
 use mathlib.Core.Bool.{cond}
 use mathlib.Core.List.{List, [], _∷_}
 use Prim.Native.Nat.{ℕ, _-_}

@@ -33,7 +33,7 @@ unfoldable pub exceeds : (all : ℕ) → List ℕ → Bool
 exceeds all [] = false
 exceeds all (x ∷ xs) = ltb all x || exceeds all xs
 
--- sums fall somewhere, one exceeds the total, the total or the count is 0, or too few sums are lent (document 01: broken table)
+-- its sums fall somewhere or pass its total, its total or its count is 0, or too few sums are lent (SCOPE 2.7; owner: broken table)
 unfoldable pub brokenTable : WeightedIndex → List ℕ → Bool
 brokenTable t s =
     falls 0 (sumsOf t s) || exceeds (t .«total_weight») (sumsOf t s) || eqb (t .«total_weight») 0 || eqb (t .count) 0 || ltb (length s) (t .count - 1)

@@ -17,11 +17,11 @@ unfoldable pub total : List ℕ → ℕ
 total [] = 0
 total (w ∷ ws) = w + total ws
 
--- the weights add up to too much (document 01: flooded)
+-- the weights add up to too much (SCOPE 2.3; owner: flooded)
 unfoldable pub overflows : List ℕ → Bool
 overflows ws = ltb mostTotal (total ws)
 
--- every weight is 0 (document 01: dry)
+-- every weight is 0 (SCOPE 2.4; owner: dry)
 unfoldable pub allZero : List ℕ → Bool
 allZero [] = true
 allZero (w ∷ ws) = eqb w 0 && allZero ws
@@ -37,7 +37,7 @@ unfoldable pub weightsFrom : (low : ℕ) (sums : List ℕ) (all : ℕ) → List 
 weightsFrom low [] all = (all - low) ∷ []
 weightsFrom low (x ∷ xs) all = (x - low) ∷ weightsFrom x xs all
 
--- the first index whose sum is above c; where none is, the index after the last sum, whose running sum is the total
+-- the first index whose sum is above c; if none is, the index after the last sum, whose running sum is the total
 unfoldable pub firstAbove : (c : ℕ) (sums : List ℕ) → ℕ
 firstAbove c [] = 0
 firstAbove c (x ∷ xs) = elim (ltb c x) [ true ↦ 0 | false ↦ suc (firstAbove c xs) ]

@@ -1,4 +1,4 @@
--- What a table is that is not refused as broken: the running sums of exactly one list of weights.
+-- What a table is that is not refused as broken: the running sums of exactly one list of weights (SCOPE 13.8).
 use mathlib.Core.Path.{_≡_}
 use mathlib.Core.Bool.{false}
 use mathlib.Core.List.{List}

@@ -38,10 +38,10 @@ fn write_sums(weights: &[u32], cumulative_weights: &mut [u32])
     }
 }
 
-// Makes the table of `weights`: the definition `newOf`. Answers its record, with the running sums of all weights but the last at the front of
+// Makes the table of `weights` (SCOPE 13.2): the definition `newOf`. Answers its record, with the running sums of all weights but the last at the front of
 // `cumulative_weights`; entries past them never change, and one weight has no sums. What a table holds is said by `WholeTables`.
 // A refusal changes nothing: 10 for more than 2^32 - 2 weights, 2 for none, 8 for fewer entries of `cumulative_weights` than the sums,
-// 3 for a total above 2^32 - 1, 4 where every weight is 0, the first of these that applies. Cost: the weights are read twice.
+// 3 for a total above 2^32 - 1, 4 if every weight is 0, the first of these that applies. Cost: the weights are read twice.
 pub fn new(weights: &[u32], cumulative_weights: &mut [u32]) -> Outcome
     ensures { λ r. ⌜ ended r (now («cumulative_weights» .exit)) ≡ newOf (now (weights .entry)) (now («cumulative_weights» .entry)) ⌝ }
 {

@@ -13,7 +13,7 @@ use super::answer::MOST_WEIGHTS;
 use super::answer::WeightedIndex;
 use refusal::Refusal;
 
-// The first `n` sums never fall, and none is above `total`: where they never fall, that is asked of the last one alone. A
+// The first `n` sums never fall, and none is above `total`: if they never fall, that is asked of the last one alone. A
 // loop that never ends early is done for many entries at once.
 fn is_rising(sums: &[u32], n: usize, total: u32) -> bool
     requires { ⌜ n ≤ length (now sums) ⌝ }
@@ -69,9 +69,9 @@ pub fn weight_at(table: WeightedIndex, cumulative_weights: &[u32], place: u64) -
     cumulative_weights[at] - low
 }
 
-// The weight at `place`, and nothing beyond the last: the definition `weightOf`. It reads back the very weights that a table was made of or
-// changed to (`WholeTables`, `HistoryClaim`). Refuses with 10 where the record's count is above 2^32 - 2, and with 7 a table that is
-// that of no weights. Cost: the check for 7 reads all sums, the weight itself two of them.
+// The weight at `place`, and nothing beyond the last (SCOPE 13.7): the definition `weightOf`. It reads back the very weights that a table was made of or
+// changed to (`WholeTables`, `HistoryClaim`). Refuses with 10 if the record's count is above 2^32 - 2, and with 7 a
+// broken table (SCOPE 2.7). Cost: the check for 7 reads all sums, the weight itself two of them.
 pub fn weight(table: WeightedIndex, cumulative_weights: &[u32], place: u64) -> Lookup
     ensures { λ r. ⌜ replied r ≡ weightOf table (now («cumulative_weights» .entry)) place ⌝ }
 {

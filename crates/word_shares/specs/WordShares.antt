@@ -1,4 +1,4 @@
--- From words to whole results: how many lists of words give an ordered sample, the tail of a shuffle or a reservoir. Each draw is given a row of k words of
+-- From words to whole results (SCOPE 16.14): how many lists of words give an ordered sample, the tail of a shuffle or a reservoir. Each draw is given a row of k words of
 -- its own, and has the value of that row, whether it reads all of it or less: words that it does not read count with all their values. M is the number of
 -- words.
 use mathlib.Core.Path.{_≡_}

@@ -1,4 +1,4 @@
--- Words told truly: what the words figure of every public call that draws says of the generator handed back, and of the budget.
+-- Words told truly: what the words figure of every public call that draws says of the generator handed back, and of the budget (SCOPE 3.3, 3.5).
 use mathlib.Core.Path.{_≡_}
 use mathlib.Core.List.{List}
 use Prim.Native.Nat.{ℕ, _≤_}
@@ -23,7 +23,7 @@ pub record Reads (g : Xoshiro256PlusPlus) (a : Answer) (words : ℕ) (rng : Xosh
   pub after : rng ≡ steps words g
   pub never : a .number ≡ number BudgetExhausted → ⊥
 
--- A call that heeds one: the same of the generator, the figure is within the budget, and 13 is the answer only where it is the budget.
+-- A call that heeds one: the same of the generator, the figure is within the budget, and 13 is the answer only if it is the budget.
 pub record ReadsWithin (budget : ℕ) (g : Xoshiro256PlusPlus) (a : Answer) (words : ℕ) (rng : Xoshiro256PlusPlus) : Type 0 where
   pub after : rng ≡ steps words g
   pub within : words ≤ budget

@@ -1,5 +1,5 @@
--- The twelve draws that document 01 marks *, computed from the definitions that the calls' contracts cite. A row is what a definition gives,
--- and what document 01 says. Words are those of a generator, whose state is made so that these words come next.
+-- The twelve draws of SCOPE 18.1, computed from the definitions that the calls' contracts cite. A row is what a definition gives, and what
+-- the scope says. Words are those of a generator, whose state is made so that these words come next.
 use mathlib.Core.Path.{_≡_}
 use mathlib.Core.Bool.{Bool, true, _&&_}
 use mathlib.Core.List.{List, [], _∷_, _++_, map}
@@ -25,7 +25,7 @@ pub record Row : Type 0 where
 abbrev row : List ℕ → List ℕ → Row
 row c s = record { computed = c; stated = s }
 
--- ---- draws: the words that are read, the number 0 where a value is had, and the value
+-- ---- draws: the words that are read, the number 0 if a value is had, and the value
 
 abbrev state : (s0 s1 s2 s3 : ℕ) → Xoshiro256PlusPlus
 state s0 s1 s2 s3 = record { s0 = s0; s1 = s1; s2 = s2; s3 = s3 }
@@ -63,25 +63,25 @@ changeRow ws slice places weights =
 
 unfoldable pub table : List Row
 table =
-    -- r = 6: word 2147483648 gives 3; word 4294967295 gives 5, one word read
+    -- below 6: word 2147483648 is 3, and word 4294967295 alone is 5
     row (boundedRow 6 4 (state 0 0x10000000000 0 0x10000000000)) (2147483648 ∷ 0 ∷ 3 ∷ [])
     ∷ row (boundedRow 6 4 (state 0 0x1fffffffe00 0 0x1fffffffe00)) (4294967295 ∷ 0 ∷ 5 ∷ [])
-    -- r = 6: words 715827882, 2863311531 give 1; 715827882, 2863311530 read a third; 0 there gives 0
+    -- below 6: 715827882 and 2863311531 are 1; with 2863311530 a third word is read, and 0 makes it 0
     ∷ row (boundedRow 6 4 (state 0x1555552ab56 0x5aa952fffffffdff 0 0x5aa952fffffffdff)) (715827882 ∷ 2863311531 ∷ 0 ∷ 1 ∷ [])
     ∷ row (boundedRow 6 4 (state 0xaaaaaaaa0000000 0xffffff3ffffffec0 0xf55554c00aaaaac0 0xf55555955ffffec0)) (715827882 ∷ 2863311530 ∷ 0 ∷ 0 ∷ 0 ∷ [])
-    -- rejecting, r = 6: words 0, 1 give 0; word 0 is dropped
+    -- rejecting, below 6: of the words 0, 1 the first is dropped, and the second is 0
     ∷ row (rejectingRow 6 2 (state 0x200 0xfffc01fffffffdff 0 0xfffc01fffffffdff)) (0 ∷ 1 ∷ 0 ∷ 0 ∷ [])
-    -- Floyd 2 of 3: draws 1, 1 give 2, 1; draws 0, 0 give 2, 0
+    -- Floyd, 2 of 3: from draws 1, 1 comes 2, 1, and from 0, 0 comes 2, 0
     ∷ row (floydOf 3 2 (1 ∷ 1 ∷ [])) (2 ∷ 1 ∷ [])
     ∷ row (floydOf 3 2 (0 ∷ 0 ∷ [])) (2 ∷ 0 ∷ [])
     -- the bound for m = 65535 is 4294901760, two factors; for 65536 it is 65536, one
     ∷ row (boundRow 65535) (4294901760 ∷ 2 ∷ [])
     ∷ row (boundRow 65536) (65536 ∷ 1 ∷ [])
-    -- a shuffle of a b c with chunk 7 gives c b a
+    -- a, b, c shuffled by chunk 7 are c, b, a
     ∷ row (shuffleOf 0 (97 ∷ 98 ∷ 99 ∷ []) (7 ∷ [])) (99 ∷ 98 ∷ 97 ∷ [])
-    -- weights 2, 0, 3: c = 1 picks 0, c = 2 picks 2
+    -- of the weights 2, 0, 3 index 0 is picked by c = 1, and index 2 by c = 2
     ∷ row (pickRow (2 ∷ 0 ∷ 3 ∷ []) (0 ∷ 0 ∷ []) (1 ∷ 2 ∷ [])) (0 ∷ 2 ∷ [])
-    -- place 1 changed to 4: sums 2, 6, total 9
+    -- the weight at place 1 made 4: cumulative weights 2, 6 and total 9
     ∷ row (changeRow (2 ∷ 0 ∷ 3 ∷ []) (0 ∷ 0 ∷ []) (1 ∷ []) (4 ∷ [])) (0 ∷ 3 ∷ 9 ∷ 2 ∷ 6 ∷ [])
     ∷ []
 

@@ -1,4 +1,4 @@
--- xoshiro256++ 1.0, as Blackman and Vigna publish it.
+-- xoshiro256++ 1.0, as Blackman and Vigna publish it (SCOPE 4.1, 4.2).
 use mathlib.Core.Path.{_≡_}
 use mathlib.Core.Bool.{Bool, _&&_}
 use mathlib.Core.List.{List, [], _∷_}
@@ -38,7 +38,7 @@ unfoldable pub nextWords : ℕ → Xoshiro256PlusPlus → List ℕ
 nextWords zero g = []
 nextWords (suc k) g = word g ∷ nextWords k (advance g)
 
--- all four words are 0 (document 01: dead generator)
+-- all four words are 0 (SCOPE 2.12; owner: dead generator)
 unfoldable pub zeroState : Xoshiro256PlusPlus → Bool
 zeroState g = eqb (g .s0) 0 && eqb (g .s1) 0 && eqb (g .s2) 0 && eqb (g .s3) 0
 

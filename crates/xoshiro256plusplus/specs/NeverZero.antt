@@ -1,4 +1,4 @@
--- A caller who seeds never meets the all-zero state, from which every output is 0.
+-- A caller who seeds never meets the all-zero state, from which every output is 0 (SCOPE 4.9).
 use mathlib.Core.Path.{_≡_}
 use mathlib.Core.Bool.{false}
 use mathlib.Core.List.{List}

@@ -1,4 +1,4 @@
--- Seeding: from a number by splitmix64, and from 32 bytes as four little-endian words.
+-- Seeding: from a number by splitmix64, and from 32 bytes as four little-endian words (SCOPE 4.4 to 4.6).
 use mathlib.Core.Bool.{Bool, true, cond, _&&_}
 use mathlib.Core.List.{List, [], _∷_}
 use Prim.Native.Nat.{ℕ, _+_, _*_}
@@ -35,6 +35,6 @@ unfoldable pub allZero : List ℕ → Bool
 allZero [] = true
 allZero (b ∷ bs) = eqb b 0 && allZero bs
 
--- the four words of the bytes, and where every byte is 0 what the number 0 gives
+-- the four words of the bytes, and if every byte is 0 what the number 0 gives
 unfoldable pub fromSeed : List ℕ → Xoshiro256PlusPlus
 fromSeed s = cond (allZero s) (seeded 0) (fourWords s)

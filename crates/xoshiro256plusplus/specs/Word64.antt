@@ -1,4 +1,4 @@
--- Arithmetic on numbers below 2 ^ 64 that keeps the low 64 bits.
+-- Arithmetic on numbers below 2 ^ 64 that keeps the low 64 bits (SCOPE 4.7).
 use Prim.Native.Nat.{ℕ, _+_, _-_, _*_, _/_, _%_, _^_}
 
 -- the sum, wrapped

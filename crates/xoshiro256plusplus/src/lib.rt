@@ -32,7 +32,7 @@ pub struct Word {
 }
 
 impl Xoshiro256PlusPlus {
-    // The generator whose state is the seed's four little-endian words, and where all bytes are 0 that of `seed_from_u64(0)`.
+    // The generator whose state is the seed's four little-endian words; if all bytes are 0, that of `seed_from_u64(0)` (SCOPE 4.4, 4.5).
     // The test is on the words, as in the Rust; the definition `fromSeed` has it on the bytes. The state is never all 0: `never-zero`.
     pub fn from_seed(seed: [u8; 32]) -> Self
         ensures { λ r. ⌜ r ≡ fromSeed seed ⌝ }
@@ -44,7 +44,7 @@ impl Xoshiro256PlusPlus {
         state
     }
 
-    // The generator whose state is the first four outputs of splitmix64 from `state`: the definition `seeded`. It is
+    // The generator whose state is the first four outputs of splitmix64 from `state` (SCOPE 4.6): the definition `seeded`. It is
     // never all 0: `never-zero`.
     pub fn seed_from_u64(state: u64) -> Self
         ensures { λ r. ⌜ r ≡ seeded state ⌝ }
