@@ -1,4 +1,4 @@
-/* Which closings of a gate are measured again: every kind of call of gapyndura.h, from one seed. Where tools/install has put the library,
+/* Which closings of a gate are measured again: every kind of call of gapyndura.h, from one seed. After tools/install has installed the library,
  *
  *     cc closings.c $(pkg-config --cflags --libs gapyndura) -o closings
  *
@@ -14,10 +14,10 @@
 #error "this program is written for version 8 of gapyndura.h"
 #endif
 
-/* The most words that a call may read: each that draws could else read on for ever. */
+/* The most words that a call may read. Without a budget a call that draws could read on for ever. */
 #define BUDGET 1000
 
-/* Ends the program where a call that must be carried out was not. */
+/* Ends the program if a call that must be carried out was declined. */
 static void must(const char *call, uint32_t number)
 {
     if (number != GAPYNDURA_DONE) {
@@ -34,8 +34,8 @@ static void print_list(const char *title, const uint32_t *list, size_t len, uint
     printf(" (words read: %" PRIu64 ")\n", words);
 }
 
-/* Five of a hundred closings, and the order in which they are measured. Five are drawn by Floyd's method, which needs no scratch; but a
- * pointer is never null, so one entry is lent and its length is said to be 0. */
+/* Five of a hundred closings, and the order in which they are measured. Five are drawn by Floyd's method, which needs no scratch. No
+ * pointer may be null, so one entry is lent with a length of 0. */
 static void sample_and_shuffle(uint64_t state[4])
 {
     uint32_t closings[5], scratch[1];
@@ -55,7 +55,7 @@ static void sample_in_place(uint64_t state[4])
     print_list("in place", closings, out[1], out[0]);
 }
 
-/* Of each of three gates as many closings as are wanted of it. Closings are numbered through: those of the last gate from 65 on. */
+/* From each of three gates as many closings as are wanted of it. One numbering goes through all gates: that of the last begins at 65. */
 static void sample_each_gate(uint64_t state[4])
 {
     const uint64_t lengths[3] = {40, 25, 10}, amounts[3] = {3, 0, 2};
@@ -105,7 +105,7 @@ static void choose_reader(uint64_t state[4])
     printf("reader %" PRIu64 " (words read: %" PRIu64 ")\n", out[2], out[0]);
 }
 
-/* Calls that are declined: the answer is the number of the cause, and nothing has changed but where the budget is used up: then it is read. */
+/* Calls that are declined: the answer is the number of the cause, and nothing has changed. Only if the budget is used up, its words are read. */
 static void be_refused(uint64_t state[4])
 {
     const uint64_t lengths[2] = {40, 25}, amounts[1] = {3};

@@ -14,7 +14,7 @@ use gapyndura::{Refusal, WeightedIndex, Xoshiro256PlusPlus};
 /// The calls are made as version 8 has them; `CHANGELOG.md` says what a later one changes.
 const _: () = assert!(gapyndura::VERSION == 8);
 
-/// The most words that a call may read: each that draws could else read on for ever.
+/// The most words that a call may read. Without a budget a call that draws could read on for ever.
 const BUDGET: u64 = 1000;
 
 fn print_list(title: &str, list: &[u32], words: u64) {
@@ -43,7 +43,7 @@ fn sample_in_place(rng: &mut Xoshiro256PlusPlus) -> Result<(), Box<dyn Error>> {
     Ok(())
 }
 
-/// Of each of three gates as many closings as are wanted of it. Closings are numbered through: those of the last gate from 65 on.
+/// From each of three gates as many closings as are wanted of it. One numbering goes through all gates: that of the last begins at 65.
 fn sample_each_gate(rng: &mut Xoshiro256PlusPlus) -> Result<(), SampleError> {
     let mut closings = [0; 5];
     let (lengths, amounts) = ([40, 25, 10], [3, 0, 2]);
@@ -98,7 +98,7 @@ fn choose_reader(rng: &mut Xoshiro256PlusPlus) -> Result<(), Box<dyn Error>> {
     Ok(())
 }
 
-/// Calls that are declined: nothing has changed but with 13, where the budget is read.
+/// Calls that are declined: nothing has changed. Only with 13 the words of the budget are read.
 fn be_refused(rng: &mut Xoshiro256PlusPlus) {
     let mut closings = [0; 200];
     for result in [

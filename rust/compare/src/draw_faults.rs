@@ -107,7 +107,7 @@ mod tests {
         }
     }
 
-    /// Of the words below 6 that document 02 marks.
+    /// Of the words below 6 of SCOPE 18.
     #[test]
     fn faults_show_where_they_are() {
         let (a, b) = (715_827_882, 2_863_311_530);

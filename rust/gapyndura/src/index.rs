@@ -1,4 +1,4 @@
-//! Samples of distinct indices, as in rand's module `index`, and such samples of the parts of a whole.
+//! Samples of distinct indices, as in rand's module `index`, and samples of the parts of a whole.
 
 use core::error::Error;
 use core::fmt;
@@ -15,9 +15,9 @@ pub struct Sampled {
     pub words: u64,
 }
 
-/// Why there is no sample, and what was done before that was seen.
+/// Why there is no sample, and what was done before the call was declined.
 ///
-/// With any refusal but [`BudgetExhausted`](Refusal::BudgetExhausted) that is nothing: no word is read, no slice changed.
+/// With every refusal but [`BudgetExhausted`](Refusal::BudgetExhausted) nothing was done: no word is read and no slice changed.
 #[derive(Clone, Copy, Debug, PartialEq, Eq, Hash)]
 pub struct SampleError {
     /// The cause.
@@ -46,19 +46,19 @@ impl From<SampleError> for Refusal {
     }
 }
 
-/// Draws `amount` distinct indices below `length`, in random order, to the front of `indices`.
+/// Draws `amount` distinct indices below `length`, in random order, to the front of `indices` (SCOPE 7).
 ///
-/// The indices, and the words read for them, are those of rand's `seq::index::sample`, which gives no sample more or less
-/// than its share. Entries of `indices` past the amount never change. `budget` is the most words that the call may read.
+/// The indices, and the words read for them, are those of rand's `seq::index::sample`. No sample has more or less than its share
+/// (SCOPE 16). Entries of `indices` past the amount never change. `budget` is the most words that the call may read.
 ///
-/// rand's rule chooses among three methods by length and amount:
+/// rand's rule chooses one of three methods by length and amount (SCOPE 6):
 ///
-/// - Floyd's, for amounts below 12, and below 163 where the length is large for the amount;
-/// - the one in place, where the length is small for the amount. It needs `length` entries of `scratch` and leaves there
+/// - Floyd's, for amounts below 12, and for amounts below 163 if the length is large for the amount;
+/// - the method in place, if the length is small for the amount. It needs `length` entries of `scratch` and leaves there
 ///   all indices below `length` as it has arranged them. Entries past the length never change;
-/// - the one by rejection, for amounts from 163 on where the length is large for the amount. A call uses some 40 KiB of stack.
+/// - rejection, for amounts from 163 on if the length is large for the amount.
 ///
-/// Only the method in place changes `scratch`.
+/// Only the method in place changes `scratch`. A call uses some 40 KiB of stack, for rejection.
 ///
 /// ```
 /// use gapyndura::Xoshiro256PlusPlus;
@@ -75,16 +75,21 @@ impl From<SampleError> for Refusal {
 ///
 /// # Errors
 ///
-/// The first of these that applies: [`ZeroState`](Refusal::ZeroState); [`TooLong`](Refusal::TooLong), for a length above
-/// 2^32 - 1; [`AmountExceedsLength`](Refusal::AmountExceedsLength); [`SliceTooShort`](Refusal::SliceTooShort), for fewer
-/// entries of `indices` than the amount; [`ScratchTooShort`](Refusal::ScratchTooShort), only where the method in place is
-/// due; and [`BudgetExhausted`](Refusal::BudgetExhausted), where `budget` words are read and one more is needed. With the last
-/// of them exactly `budget` words are read, and what was done by then is left, by the method:
+/// The first of these that applies:
 ///
-/// - Floyd's leaves as many indices as draws were finished, as these have left them. A later draw could still have replaced one:
-///   they are not the front of the sample that more words would give;
-/// - the one in place leaves `indices` unchanged, so its count is 0, and `scratch` as the finished exchanges have arranged it;
-/// - the one by rejection leaves the indices found, in order, which are the front of the sample that more words would give.
+/// - [`ZeroState`](Refusal::ZeroState);
+/// - [`TooLong`](Refusal::TooLong), if `length` is above 2^32 - 1;
+/// - [`AmountExceedsLength`](Refusal::AmountExceedsLength);
+/// - [`SliceTooShort`](Refusal::SliceTooShort), if `indices` has fewer entries than the amount;
+/// - [`ScratchTooShort`](Refusal::ScratchTooShort), if the method in place is due and `scratch` is shorter than the length;
+/// - [`BudgetExhausted`](Refusal::BudgetExhausted), if `budget` words are read and one more is needed.
+///
+/// With the last of them exactly `budget` words are read, and what was done by then stays:
+///
+/// - Floyd's method leaves one index for each finished draw. A later draw could still have replaced one of them: they are not the front
+///   of the sample that more words would give;
+/// - the method in place leaves `indices` unchanged, with a count of 0, and `scratch` as the finished exchanges have arranged it;
+/// - rejection leaves the indices found, in order: the front of the sample that more words would give.
 ///
 /// With the others no word is read and no slice changed.
 ///
@@ -121,7 +126,7 @@ pub fn sample(
     scratch: &mut [u32],
 ) -> Result<Sampled, SampleError> {
     let mut out = [0; 2];
-    // SAFETY: the pointer of a slice is not null, also where the slice is empty, is aligned, and is good for the slice's
+    // SAFETY: the pointer of a slice is not null, not even if the slice is empty, is aligned, and is good for the slice's
     // length. All that is written is borrowed for that, hence overlaps nothing.
     let number = unsafe {
         gapyndura_sample(
@@ -139,7 +144,7 @@ pub fn sample(
     ended(number, out)
 }
 
-/// How a sample ends that a function of the header has answered so.
+/// The result of a sample, from what a function of the header has answered.
 #[inline]
 fn ended(number: u32, out: [u64; 2]) -> Result<Sampled, SampleError> {
     let [words, count] = out;
@@ -157,19 +162,19 @@ fn ended(number: u32, out: [u64; 2]) -> Result<Sampled, SampleError> {
     })
 }
 
-/// Draws a stratified sample: of each part of a whole as many distinct indices as are wanted of it, the parts one behind the other, to
-/// the front of `indices`.
+/// Draws a stratified sample: from each part of a whole as many distinct indices as are wanted of it (SCOPE 8). The samples of the parts
+/// stand one behind the other at the front of `indices`.
 ///
-/// Part i has the `lengths[i]` indices from its start on, which is the sum of the lengths before it; `amounts[i]` of them are wanted.
-/// `budget` is the most words that the call may read, for all parts together.
+/// Part i has `lengths[i]` indices. They begin at its start, the sum of the lengths before it. `amounts[i]` of them are wanted. `budget`
+/// is the most words that the call may read, for all parts together.
 ///
-/// Each part in turn is a [`sample`] with its own length and amount, and so by the method that these choose, from the generator that the
-/// part before has left and with what is left of the budget. The start is then added to the indices drawn. So they are those of rand's
-/// `seq::index::sample` in a loop over the parts, and so are the words. A part of which none is wanted reads no word, and its length counts
-/// for the starts behind it. There may be no parts: then no word is read.
+/// Each part in turn is drawn by [`sample`] with its own length and amount, and so by the method that these choose, from the generator
+/// that the part before has left and with what is left of the budget. Then the part's start is added to its indices. So indices and words
+/// are those of rand's `seq::index::sample` in a loop over the parts. A part with amount 0 reads no word, but its length counts for the
+/// starts behind it. There may be no parts: then no word is read.
 ///
-/// All parts use the same `scratch`, to which nothing is added: each part by the method in place leaves there what its sample does, over
-/// what the parts before have left. Entries of `indices` past the sum of the amounts never change.
+/// All parts use the same `scratch`, and no start is added there: each part drawn in place leaves what its sample leaves, over what the
+/// parts before have left. Entries of `indices` past the sum of the amounts never change.
 ///
 /// ```
 /// use gapyndura::Xoshiro256PlusPlus;
@@ -187,13 +192,17 @@ fn ended(number: u32, out: [u64; 2]) -> Result<Sampled, SampleError> {
 ///
 /// # Errors
 ///
-/// The first of these that applies to any part: [`ZeroState`](Refusal::ZeroState); [`PartsMismatch`](Refusal::PartsMismatch), for lists of
-/// unequal count, or lengths that add up to more than 2^32 - 1; [`AmountExceedsLength`](Refusal::AmountExceedsLength);
-/// [`SliceTooShort`](Refusal::SliceTooShort), for fewer entries of `indices` than the sum of the amounts;
-/// [`ScratchTooShort`](Refusal::ScratchTooShort), for a part for which the method in place is due and which is longer than `scratch`; and
-/// [`BudgetExhausted`](Refusal::BudgetExhausted), where `budget` words are read and one more is needed. With the last of them exactly
-/// `budget` words are read, and both slices are left as they then are: `indices` has the samples of all finished parts, and behind them
-/// what [`sample`] leaves of the part that is not finished, its start added. The count takes in both.
+/// The first of these that applies to any part:
+///
+/// - [`ZeroState`](Refusal::ZeroState);
+/// - [`PartsMismatch`](Refusal::PartsMismatch), if the lists differ in count, or the lengths add up to more than 2^32 - 1;
+/// - [`AmountExceedsLength`](Refusal::AmountExceedsLength), if an amount is above its length;
+/// - [`SliceTooShort`](Refusal::SliceTooShort), if `indices` has fewer entries than the sum of the amounts;
+/// - [`ScratchTooShort`](Refusal::ScratchTooShort), if the method in place is due for a part that is longer than `scratch`;
+/// - [`BudgetExhausted`](Refusal::BudgetExhausted), if `budget` words are read and one more is needed.
+///
+/// With the last of them exactly `budget` words are read. `indices` then has the samples of all finished parts, and behind them what
+/// [`sample`] leaves of the part that is not finished, its start added. The count takes in both.
 ///
 /// The others are settled for all parts before the first word: no word is read and no slice changed.
 ///

@@ -1,8 +1,8 @@
 //! Samples and choices of items that are read once, in their order, as in rand's module `iterator`.
 //!
-//! A choice is given the items, and for every place before, between and behind them two hints: that at least and at most so
-//! many items remain there. In rand they are what `Iterator::size_hint` says. So N items have N + 1 hints of each kind:
-//! `lower[p]` and `upper[p]` are the bounds on N - p. An upper of 2^32 - 1 is none, as rand's `None`.
+//! A choice is given the items, and two hints for every place before, between and behind them: at least and at most so many items
+//! remain there. In rand the hints are what `Iterator::size_hint` says. So N items have N + 1 hints of each kind: `lower[p]` and
+//! `upper[p]` are bounds on N - p. An upper hint of 2^32 - 1 means that there is none, as `None` in rand.
 
 use core::error::Error;
 use core::fmt;
@@ -19,7 +19,7 @@ pub struct Filled {
     pub words: u64,
 }
 
-/// Why a buffer is not filled, and the words read before that was seen.
+/// Why a buffer is not filled, and the words read before the call was declined.
 #[derive(Clone, Copy, Debug, PartialEq, Eq, Hash)]
 pub struct FillError {
     /// The cause.
@@ -47,12 +47,11 @@ impl From<FillError> for Refusal {
     }
 }
 
-/// Fills `buf` with a sample of as many items as it has entries, or with all items where they are fewer.
+/// Fills `buf` with a sample of as many items as it has entries, or with all items if they are fewer (SCOPE 10).
 ///
-/// The items, and the words read for them, are those of rand's `IteratorRandom::sample_fill`, which gives no set of items more
-/// or less than its share. The order in the buffer is neither that of the items nor random. Entries past the count never
-/// change. Words are read for each item past the buffer's length, also where the buffer is empty. `budget` is the most words that
-/// the call may read.
+/// The items, and the words read for them, are those of rand's `IteratorRandom::sample_fill`. No set of items has more or less than its
+/// share (SCOPE 16). The order in the buffer is neither that of the items nor random. Entries past the count never change. A draw is made
+/// for each item past the buffer's length, also if the buffer is empty. `budget` is the most words that the call may read.
 ///
 /// ```
 /// use gapyndura::Xoshiro256PlusPlus;
@@ -74,11 +73,14 @@ impl From<FillError> for Refusal {
 ///
 /// # Errors
 ///
-/// The first of these that applies: [`ZeroState`](Refusal::ZeroState); [`TooLong`](Refusal::TooLong), for more than
-/// 2^32 - 2 items; and [`BudgetExhausted`](Refusal::BudgetExhausted), where `budget` words are read and one more is needed. With
-/// the last of them exactly `budget` words are read, and the buffer has the first items, with those in place of some that the draws
-/// before the unfinished one have put there. With the others no word is read and the buffer is unchanged. A buffer of any length is
-/// good.
+/// The first of these that applies:
+///
+/// - [`ZeroState`](Refusal::ZeroState);
+/// - [`TooLong`](Refusal::TooLong), if there are more than 2^32 - 2 items; the buffer may have any length;
+/// - [`BudgetExhausted`](Refusal::BudgetExhausted), if `budget` words are read and one more is needed.
+///
+/// With the last of them exactly `budget` words are read, and the buffer has the first items, but for those that the draws before the
+/// unfinished one have replaced by later items. With the others no word is read and the buffer is unchanged.
 ///
 /// ```
 /// use gapyndura::{Refusal, Xoshiro256PlusPlus};
@@ -103,7 +105,7 @@ pub fn sample_fill(
     budget: u64,
 ) -> Result<Filled, FillError> {
     let mut out = [0; 2];
-    // SAFETY: the pointer of a slice is not null, also where the slice is empty, is aligned, and is good for the slice's
+    // SAFETY: the pointer of a slice is not null, not even if the slice is empty, is aligned, and is good for the slice's
     // length. All that is written is borrowed for that, hence overlaps nothing.
     let number = unsafe {
         gapyndura_sample_fill(
@@ -133,13 +135,13 @@ pub fn sample_fill(
 /// What a choice took and gave.
 #[derive(Clone, Copy, Debug, PartialEq, Eq, Hash)]
 pub struct Chosen {
-    /// The item. None exactly where there are no items.
+    /// The item. It is `None` exactly if there are no items.
     pub item: Option<u32>,
     /// How many words were read from the generator.
     pub words: u64,
 }
 
-/// Why nothing is chosen, and the words read before that was seen.
+/// Why nothing is chosen, and the words read before the call was declined.
 #[derive(Clone, Copy, Debug, PartialEq, Eq, Hash)]
 pub struct ChooseError {
     /// The cause.
@@ -167,12 +169,12 @@ impl From<ChooseError> for Refusal {
     }
 }
 
-/// Chooses one of the items.
+/// Chooses one of the items (SCOPE 12).
 ///
 /// The item, and the words read for it, are those of rand's `IteratorRandom::choose` on an iterator with these hints. The
 /// better the hints, the fewer words: items that are known to remain are drawn from at once, the others one by one. So the
-/// item depends on the hints, and [`choose_stable`] is the call where it does not. Every hint is looked at, whatever is
-/// drawn. The choice stops when `budget` words are read.
+/// item depends on the hints; with [`choose_stable`] it does not. The call looks at every hint, whatever it draws. `budget` is
+/// the most words that it may read.
 ///
 /// ```
 /// use gapyndura::Xoshiro256PlusPlus;
@@ -194,11 +196,15 @@ impl From<ChooseError> for Refusal {
 ///
 /// # Errors
 ///
-/// The first of these that applies: [`ZeroState`](Refusal::ZeroState); [`TooLong`](Refusal::TooLong), for more than
-/// 2^32 - 2 items; [`InvalidHints`](Refusal::InvalidHints), where `lower` or `upper` has not exactly one entry more than
-/// there are items, or does not hold at some place; and [`BudgetExhausted`](Refusal::BudgetExhausted), where `budget` words
-/// are read and one more is needed. A choice advances the generator by the words that it reads, and so does the last of
-/// these, by exactly `budget` words; with the others no word is read and the generator stays.
+/// The first of these that applies:
+///
+/// - [`ZeroState`](Refusal::ZeroState);
+/// - [`TooLong`](Refusal::TooLong), if there are more than 2^32 - 2 items;
+/// - [`InvalidHints`](Refusal::InvalidHints), if `lower` or `upper` has not exactly one entry more than there are items, or a hint
+///   is false;
+/// - [`BudgetExhausted`](Refusal::BudgetExhausted), if `budget` words are read and one more is needed.
+///
+/// With the last of them the generator is advanced by exactly `budget` words. With the others no word is read and the generator stays.
 ///
 /// ```
 /// use gapyndura::{Refusal, Xoshiro256PlusPlus};
@@ -225,12 +231,12 @@ pub fn choose(
     choose_by(gapyndura_choose, rng, items, lower, upper, budget)
 }
 
-/// Chooses one of the items, and the same one whatever the hints are.
+/// Chooses one of the items, and the same one whatever the hints are (SCOPE 12).
 ///
 /// The item, and the words read for it, are those of rand's `IteratorRandom::choose_stable`: coins decide for each item in
-/// turn whether it takes the place of the one chosen so far. Hints must hold, but nothing else hangs on them: any two pairs
-/// of `lower` and `upper` that hold give the same answer, words and generator, with the same items, generator and budget. The
-/// choice stops when `budget` words are read.
+/// turn whether it takes the place of the one chosen so far. Hints must not be false, but nothing else depends on them: with the same
+/// items, generator and budget, any two pairs of `lower` and `upper` that are not false give the same answer, words and generator.
+/// `budget` is the most words that the call may read.
 ///
 /// ```
 /// use gapyndura::Xoshiro256PlusPlus;

@@ -1,11 +1,13 @@
 //! Samples, shuffles, reservoirs, choices and weights of crate rand 0.10.3, proved equal to their definitions.
 //!
-//! The calls are proved in Rattle and linked as a static library for x86-64 Linux. This crate holds the safe side of that
+//! The calls are proved in Rattle and linked as a static library for x86-64 Linux. This crate is the safe side of that
 //! boundary and nothing else: each function lends its arguments to one function of `include/gapyndura.h`. It uses no
-//! allocator and no `std`: every slice is lent by the caller.
+//! allocator and no `std`: the caller lends every slice.
 //!
-//! A view, [`IndexedSamples`], and the two parts of a shuffled slice have no function there: the clip of a view's amount, its steps and
-//! the split of the slice are written here, and are not proved.
+//! Two things have no function there, are written here and are not proved: a view, [`IndexedSamples`], with the clip of its amount
+//! and its steps, and the split of a shuffled slice into its two parts.
+//!
+//! `docs/SCOPE.md` in the repository says by number all that the calls promise. SCOPE 7 on these pages is its section 7.
 //!
 //! ```
 //! use gapyndura::{Refusal, WeightedIndex, Xoshiro256PlusPlus};
@@ -27,30 +29,30 @@
 //!
 //! Each draws what rand, built with its feature `unbiased`, draws from the same state, word for word.
 //!
-//! | Call | In rand | Reads at most |
-//! |---|---|---|
-//! | [`Xoshiro256PlusPlus::from_seed`], [`seed_from_u64`](Xoshiro256PlusPlus::seed_from_u64) | `SeedableRng` for `Xoshiro256PlusPlus`, and for `SmallRng` on a 64-bit target | no word |
-//! | [`Xoshiro256PlusPlus::next_u32`] | `Rng::next_u32` | one word |
-//! | [`index::sample`] | `seq::index::sample` | `budget` words |
-//! | [`index::sample_stratified`] | `seq::index::sample` of each part in turn, its start added to the indices | `budget` words |
-//! | [`slice::partial_shuffle`] | `SliceRandom::partial_shuffle` | `budget` words |
-//! | [`slice::shuffle`] | `SliceRandom::shuffle` | `budget` words |
-//! | [`slice::sample`] | `IndexedRandom::sample` | `budget` words |
-//! | [`iterator::sample_fill`] | `IteratorRandom::sample_fill` | `budget` words |
-//! | [`iterator::choose`] | `IteratorRandom::choose` | `budget` words |
-//! | [`iterator::choose_stable`] | `IteratorRandom::choose_stable` | `budget` words |
-//! | [`WeightedIndex::new`] | `WeightedIndex::new` | no word |
-//! | [`WeightedIndex::update_weights`] | `WeightedIndex::update_weights` | no word |
-//! | [`WeightedIndex::weight`] | `WeightedIndex::weight` | no word |
-//! | [`WeightedIndex::sample`] | `Distribution::sample` for `WeightedIndex` | `budget` words |
+//! | Call | In rand | Reads at most | SCOPE |
+//! |---|---|---|---|
+//! | [`Xoshiro256PlusPlus::from_seed`], [`seed_from_u64`](Xoshiro256PlusPlus::seed_from_u64) | `SeedableRng` for `Xoshiro256PlusPlus`, and for `SmallRng` on a 64-bit target | no word | 4 |
+//! | [`Xoshiro256PlusPlus::next_u32`] | `Rng::next_u32` | one word | 15 |
+//! | [`index::sample`] | `seq::index::sample` | `budget` words | 7 |
+//! | [`index::sample_stratified`] | `seq::index::sample` of each part in turn, its start added to the indices | `budget` words | 8 |
+//! | [`slice::partial_shuffle`] | `SliceRandom::partial_shuffle` | `budget` words | 9 |
+//! | [`slice::shuffle`] | `SliceRandom::shuffle` | `budget` words | 9 |
+//! | [`slice::sample`] | `IndexedRandom::sample` | `budget` words | 15 |
+//! | [`iterator::sample_fill`] | `IteratorRandom::sample_fill` | `budget` words | 10 |
+//! | [`iterator::choose`] | `IteratorRandom::choose` | `budget` words | 12 |
+//! | [`iterator::choose_stable`] | `IteratorRandom::choose_stable` | `budget` words | 12 |
+//! | [`WeightedIndex::new`] | `WeightedIndex::new` | no word | 13 |
+//! | [`WeightedIndex::update_weights`] | `WeightedIndex::update_weights` | no word | 13 |
+//! | [`WeightedIndex::weight`] | `WeightedIndex::weight` | no word | 13 |
+//! | [`WeightedIndex::sample`] | `Distribution::sample` for `WeightedIndex` | `budget` words | 14 |
 //!
 //! # What is declined
 //!
-//! A call is declined only for a cause of [`Refusal`], and draws otherwise. Nothing is read and nothing changed by a call that
-//! is declined, but with [`BudgetExhausted`](Refusal::BudgetExhausted): then the budget is read, and each call says what was done
-//! by then. So only the calls that take a budget have an error with more than the cause, [`SampleError`], [`ShuffleError`],
-//! [`FillError`], [`ChooseError`] and [`PickError`]; each becomes a [`Refusal`] by `?`. Where no word is needed a budget of 0 is
-//! enough.
+//! A call is declined only for a cause in [`Refusal`]; otherwise it draws (SCOPE 2 and 3). A call that is declined reads no word and
+//! changes nothing, with one exception, [`BudgetExhausted`](Refusal::BudgetExhausted): then the whole budget is read, and each call
+//! says what it leaves. So only the calls that take a budget have an error that says more than the cause: [`SampleError`],
+//! [`ShuffleError`], [`FillError`], [`ChooseError`] and [`PickError`]. Each becomes a [`Refusal`] by `?`. If a call needs no word, a
+//! budget of 0 is enough.
 //!
 //! # What of rand was left out
 //!
@@ -59,7 +61,7 @@
 //! | `choose` and `choose_mut` of a slice | [`index::sample`] with amount 1 |
 //! | `sample_array` | [`index::sample`]; the same for up to 11 indices |
 //! | `choose_iter` of a slice (with replacement) | picks from a table of weights that are all 1 |
-//! | `choose_weighted` and its like | [`weighted_index`], the index that is picked being the item's place |
+//! | `choose_weighted` and its like | [`weighted_index`]: the picked index is the item's place |
 //! | `sample` of an iterator | [`iterator::sample_fill`] |
 //! | shuffles and choices of items that are no `u32` | the call on places 0, 1 and so on, then the items at them |
 //! | `WeightedIndex::weights`, `total_weight` | [`weight`](WeightedIndex::weight) at each place; the field `total_weight` |
@@ -68,7 +70,7 @@
 //! | lengths above 2^32 - 1 | nothing |
 //! | other generators, `Rng` as a trait, words of 64 bits, ranges by themselves | nothing |
 //!
-//! `docs/DIFFERENCES.md` in the repository has them all, and where the Rust and this crate differ by intent.
+//! `docs/DIFFERENCES.md` in the repository has the whole list, and the intended differences from the Rust.
 
 #![no_std]
 #![warn(missing_docs)]
@@ -88,7 +90,7 @@ pub use slice::{IndexedSamples, ShuffleError, Shuffled, Viewed};
 pub use weighted_index::{PickError, Picked, WeightedIndex};
 pub use xoshiro256plusplus::Xoshiro256PlusPlus;
 
-/// The version, which is `GAPYNDURA_VERSION` of the header: 1 for the base, and one more with each request.
+/// The version, the same number as `GAPYNDURA_VERSION` of the header: 1 for the base, and one more with each request.
 /// `CHANGELOG.md` in the repository says what a caller has to change.
 pub const VERSION: u32 = 8;
 

@@ -3,21 +3,21 @@
 use core::error::Error;
 use core::fmt;
 
-/// Why a call is declined: the table of document 01, by number, and what document 02 adds to it. [`Display`](fmt::Display) says it in
-/// words. Those of numbers 14, 15 and 16 are of a draw book, which no call of this package reads: none answers them.
+/// Why a call is declined, by number (SCOPE 2). [`Display`](fmt::Display) says it in words. Numbers 14, 15 and 16 are about draw books.
+/// No call of this package reads a draw book, so none answers them.
 ///
-/// A call that may draw more than one word has a budget, the most words that it may read. Its error also says how many words were
-/// read, and becomes a refusal where that is all that is wanted. A call that has no budget answers a refusal alone: it has then read
-/// no word and changed nothing.
+/// A call that may need more than one word takes a budget, the most words that it may read. Its error also says how many words were
+/// read, and becomes a refusal by `?` or `into`. A call without a budget answers a refusal alone: it has then read no word and changed
+/// nothing.
 ///
 /// ```
 /// use gapyndura::{Refusal, Xoshiro256PlusPlus};
 /// use gapyndura::index::sample;
 /// use gapyndura::slice::shuffle;
 ///
-/// fn draw(rng: &mut Xoshiro256PlusPlus, closings: &mut [u32; 3]) -> Result<(), Refusal> {
-///     sample(rng, 2, 3, 100, closings, &mut [])?;
-///     shuffle(rng, closings, 100)?;
+/// fn draw(rng: &mut Xoshiro256PlusPlus, indices: &mut [u32; 3]) -> Result<(), Refusal> {
+///     sample(rng, 2, 3, 100, indices, &mut [])?;
+///     shuffle(rng, indices, 100)?;
 ///     Ok(())
 /// }
 /// let mut rng = Xoshiro256PlusPlus::seed_from_u64(1);
@@ -32,31 +32,32 @@ use core::fmt;
 /// ```
 #[derive(Clone, Copy, Debug, PartialEq, Eq, Hash)]
 pub enum Refusal {
-    /// The amount is above the length (document 01: overdrawn).
+    /// The amount is above the length.
     AmountExceedsLength = 1,
-    /// A new table has no weights (no list).
+    /// A new table has no weights.
     NoWeights,
-    /// The weights sum above 2^32 - 1 (flooded).
+    /// The weights sum above 2^32 - 1.
     Overflow,
-    /// Every weight is, or would be, 0 (dry).
+    /// Every weight is, or would be, 0.
     InsufficientNonZero,
-    /// A change's place is not above the one before (out of turn).
+    /// A place of a change does not lie above the place before it.
     PlacesNotIncreasing,
-    /// A change's place is not below the count of weights (no such row).
+    /// A place of a change is none of the table: it is at the count of weights or above.
     PlaceOutOfRange,
-    /// The cumulative weights are those of no list of weights, or too few are lent (broken table).
+    /// The table is broken: a sum is below the one before it or above the total, the count or the total is 0, or fewer than
+    /// `count - 1` sums are lent.
     InvalidTable,
-    /// A slice to be written has too few entries, or two lists that go together differ in length (short tray).
+    /// A slice to be written has too few entries, or two lists that go together differ in length.
     SliceTooShort,
-    /// The method in place is due and the scratch slice is shorter than the length (short bench).
+    /// The method in place is due, and the scratch slice is shorter than the length.
     ScratchTooShort,
-    /// A length is above 2^32 - 1, or a list or a table's count is above 2^32 - 2 (too long).
+    /// A length is above 2^32 - 1, or the length of a list or a table's count is above 2^32 - 2.
     TooLong,
-    /// The bounds on what remains do not hold of the items (false hints).
+    /// The hints of how many items remain are false, or too few or too many.
     InvalidHints,
-    /// All four words of the generator's state are 0 (dead generator).
+    /// All four words of the generator's state are 0.
     ZeroState,
-    /// A word is needed, and as many as the budget allows have been read (spent).
+    /// A word is needed, and as many as the budget allows have been read.
     BudgetExhausted,
     /// A draw book's count is missing or above 64, or its contents are cut short.
     ContentsCutShort,
@@ -101,7 +102,7 @@ impl Refusal {
         ALL[number as usize - 1]
     }
 
-    /// What a function of the header answers where a refusal does nothing: the call is carried out, or declined for a cause.
+    /// The result of a call whose refusals change nothing: it is carried out, or declined for a cause.
     pub(crate) fn check(number: u32) -> Result<(), Self> {
         match number {
             0 => Ok(()),

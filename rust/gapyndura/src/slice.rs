@@ -8,12 +8,12 @@ use crate::boundary::{gapyndura_partial_shuffle, gapyndura_shuffle};
 use crate::index::{self, SampleError};
 use crate::{Refusal, Xoshiro256PlusPlus};
 
-/// A slice that was shuffled, in its two parts, and what that took.
+/// A slice that was shuffled, in its two parts, and the words read for it.
 #[derive(Debug, PartialEq, Eq, Hash)]
 pub struct Shuffled<'a> {
     /// The items that were shuffled: the slice from `n` on.
     pub tail: &'a mut [u32],
-    /// The other items, in an order that is not shuffled: the slice before `n`.
+    /// The other items, whose order is not shuffled: the slice before `n`.
     pub head: &'a mut [u32],
     /// Where the tail starts.
     pub n: usize,
@@ -22,7 +22,7 @@ pub struct Shuffled<'a> {
 }
 
 impl<'a> Shuffled<'a> {
-    /// The parts of the items at the place that a function of the header has written behind the words.
+    /// The parts of the items, from what a function of the header has written: the words, and where the tail starts.
     fn new(items: &'a mut [u32], out: [u64; 2]) -> Self {
         let [words, n] = out;
         // No more than the slice has entries.
@@ -37,7 +37,7 @@ impl<'a> Shuffled<'a> {
     }
 }
 
-/// Why a slice is not shuffled, and the words read before that was seen.
+/// Why a slice is not shuffled, and the words read before the call was declined.
 #[derive(Clone, Copy, Debug, PartialEq, Eq, Hash)]
 pub struct ShuffleError {
     /// The cause.
@@ -65,11 +65,11 @@ impl From<ShuffleError> for Refusal {
     }
 }
 
-/// Shuffles `amount` of the items to the end of the slice, and lends the two parts: the tail that is shuffled, and the head.
+/// Shuffles `amount` of the items to the end of the slice, and lends the two parts: the tail that is shuffled, and the head (SCOPE 9).
 ///
-/// The items, and the words read for them, are those of rand's `SliceRandom::partial_shuffle`, which gives no tail more or less
-/// than its share. The tail starts at `n`, the length less the amount, or 0 where the amount is above the length. `budget` is the
-/// most words that the call may read; one draw serves up to 12 items.
+/// The items, and the words read for them, are those of rand's `SliceRandom::partial_shuffle`. No tail has more or less than its share
+/// (SCOPE 16). The tail starts at `n`, the length less the amount, or 0 if the amount is above the length. `budget` is the most words
+/// that the call may read; one draw serves up to 12 items.
 ///
 /// ```
 /// use gapyndura::Xoshiro256PlusPlus;
@@ -87,9 +87,13 @@ impl From<ShuffleError> for Refusal {
 ///
 /// # Errors
 ///
-/// The first of these that applies: [`ZeroState`](Refusal::ZeroState); [`TooLong`](Refusal::TooLong), for more than
-/// 2^32 - 2 items; and [`BudgetExhausted`](Refusal::BudgetExhausted), where `budget` words are read and one more is needed. With
-/// the last of them exactly `budget` words are read, and all exchanges are done that come before the unfinished draw: the slice has
+/// The first of these that applies:
+///
+/// - [`ZeroState`](Refusal::ZeroState);
+/// - [`TooLong`](Refusal::TooLong), if there are more than 2^32 - 2 items;
+/// - [`BudgetExhausted`](Refusal::BudgetExhausted), if `budget` words are read and one more is needed.
+///
+/// With the last of them exactly `budget` words are read, and all exchanges that come before the unfinished draw are done: the slice has
 /// the same items in another order. With the others no word is read and the slice is unchanged.
 ///
 /// ```
@@ -114,7 +118,7 @@ pub fn partial_shuffle<'a>(
     budget: u64,
 ) -> Result<Shuffled<'a>, ShuffleError> {
     let mut out = [0; 2];
-    // SAFETY: the pointer of a slice is not null, also where the slice is empty, is aligned, and is good for the slice's
+    // SAFETY: the pointer of a slice is not null, not even if the slice is empty, is aligned, and is good for the slice's
     // length. All that is written is borrowed for that, hence overlaps nothing.
     let number = unsafe {
         gapyndura_partial_shuffle(
@@ -129,7 +133,7 @@ pub fn partial_shuffle<'a>(
     ended(number, items, out)
 }
 
-/// How a shuffle of the items ends that a function of the header has answered so.
+/// The result of a shuffle of the items, from what a function of the header has answered.
 fn ended(number: u32, items: &mut [u32], out: [u64; 2]) -> Result<Shuffled<'_>, ShuffleError> {
     if number == 0 {
         return Ok(Shuffled::new(items, out));
@@ -141,10 +145,10 @@ fn ended(number: u32, items: &mut [u32], out: [u64; 2]) -> Result<Shuffled<'_>, 
     })
 }
 
-/// Shuffles the whole slice: the tail is all of it, the head is empty.
+/// Shuffles the whole slice: the tail is all of it, the head is empty (SCOPE 9).
 ///
-/// The order, and the words read for it, are those of rand's `SliceRandom::shuffle`, which gives no order more or less than its
-/// share. Fewer than two items are left as they are, and no word is read for them.
+/// The order, and the words read for it, are those of rand's `SliceRandom::shuffle`. No order has more or less than its share
+/// (SCOPE 16). Fewer than two items are left as they are, and no word is read for them.
 ///
 /// ```
 /// use gapyndura::Xoshiro256PlusPlus;
@@ -192,17 +196,17 @@ pub fn shuffle<'a>(
 /// The most items that a view is drawn from.
 const MOST_ITEMS: u64 = (1 << 32) - 2;
 
-/// A view of drawn items: shows those at the indices, one after another.
+/// A view of drawn items: it shows the items at the indices, one after another (SCOPE 15).
 ///
-/// [`sample`] draws the indices. What is shown are the items themselves, and they stay lent when the view and the indices are
-/// no longer. Each step is the item at the next index, and one place on; past the last index it is none, and the view stays.
+/// [`sample`] draws the indices. The view shows the caller's own items, which stay lent when the view and the indices are gone. Each
+/// step shows the item at the next index and moves one place on. Past the last index a step shows none, and the view stays.
 ///
-/// The three parts can be kept, changed or made up freely. At an index that is not below the items' count the view shows none
-/// and stays too, where rand panics. [`sample`] draws no such index; in a view that has one, `len` still counts all the indices
+/// The three parts can be kept, changed or made up freely. At an index that is not below the items' count the view also shows none
+/// and stays; rand panics there. [`sample`] draws no such index. In a view that has one, `len` still counts all the indices
 /// from the place on, and so is more than the items to come.
 ///
-/// The draw is proved. The clip of the amount in [`sample`] and the step are this crate's own, for a view has no function at the C
-/// boundary: they do what the proved view does in Rattle.
+/// The draw is proved. The clip of the amount in [`sample`] and the step are this crate's own, since a view has no function at the C
+/// boundary. They do what the proved view does in Rattle.
 ///
 /// ```
 /// use gapyndura::slice::IndexedSamples;
@@ -219,18 +223,18 @@ const MOST_ITEMS: u64 = (1 << 32) - 2;
 /// assert_eq!(view.place, 1);
 /// ```
 ///
-/// A view of items of any type can be cloned and shown. The clone shows the same items from the same place on; `Debug` tells how
+/// A view of items of any type has `Clone` and `Debug`. The clone shows the same items from the same place on. `Debug` prints how
 /// many items there are, and not the items.
 ///
 /// ```
 /// use gapyndura::IndexedSamples;
 ///
-/// struct Closing(u32); // neither `Clone` nor `Debug`
-/// let closings = [Closing(7), Closing(8), Closing(9)];
-/// let mut view = IndexedSamples { items: &closings, indices: &[2, 0], place: 0 };
+/// struct Reading(u32); // neither `Clone` nor `Debug`
+/// let readings = [Reading(7), Reading(8), Reading(9)];
+/// let mut view = IndexedSamples { items: &readings, indices: &[2, 0], place: 0 };
 /// let mut again = view.clone();
-/// assert_eq!((view.next().map(|closing| closing.0), view.len()), (Some(9), 1));
-/// assert_eq!((again.next().map(|closing| closing.0), again.len()), (Some(9), 1));
+/// assert_eq!((view.next().map(|reading| reading.0), view.len()), (Some(9), 1));
+/// assert_eq!((again.next().map(|reading| reading.0), again.len()), (Some(9), 1));
 /// assert_eq!(format!("{view:?}"), "IndexedSamples { items_len: 3, indices: [2, 0], place: 1 }");
 /// ```
 pub struct IndexedSamples<'a, 'i, T> {
@@ -242,7 +246,7 @@ pub struct IndexedSamples<'a, 'i, T> {
     pub place: usize,
 }
 
-// By hand, as `Debug` and as those of `Viewed`: what is derived would ask the same of the items.
+// Written by hand, as `Debug` and those of `Viewed` are: a derived one would ask the same of the items.
 impl<T> Clone for IndexedSamples<'_, '_, T> {
     fn clone(&self) -> Self {
         Self { ..*self }
@@ -277,19 +281,19 @@ impl<'a, T> Iterator for IndexedSamples<'a, '_, T> {
 
 impl<T> ExactSizeIterator for IndexedSamples<'_, '_, T> {}
 
-// Where it shows none it stays, so it shows none again.
+// If it shows none it stays, so it shows none again.
 impl<T> FusedIterator for IndexedSamples<'_, '_, T> {}
 
-/// A view of drawn items, and what the draw took. As the view it can be cloned and shown whatever the items are:
+/// A view of drawn items, and the words read for it. Like the view it has `Clone` and `Debug` whatever the items are:
 ///
 /// ```
 /// use gapyndura::Xoshiro256PlusPlus;
 /// use gapyndura::slice::sample;
 ///
-/// struct Closing; // neither `Clone` nor `Debug`
+/// struct Reading; // neither `Clone` nor `Debug`
 /// let mut rng = Xoshiro256PlusPlus::seed_from_u64(1);
 /// let mut indices = [0; 1];
-/// let viewed = sample(&mut rng, &[Closing], 1, u64::MAX, &mut indices, &mut [])?;
+/// let viewed = sample(&mut rng, &[Reading], 1, u64::MAX, &mut indices, &mut [])?;
 /// assert_eq!(
 ///     format!("{:?}", viewed.clone()),
 ///     "Viewed { view: IndexedSamples { items_len: 1, indices: [0], place: 0 }, words: 1 }",
@@ -321,11 +325,11 @@ impl<T> fmt::Debug for Viewed<'_, '_, T> {
     }
 }
 
-/// Draws `amount` of the items, in random order, or all of them where they are fewer, and lends a view that shows them.
+/// Draws `amount` of the items, in random order, or all of them if they are fewer, and lends a view that shows them (SCOPE 15).
 ///
 /// The items, and the words read for them, are those of rand's `IndexedRandom::sample`. They may be of any type: none of them
-/// is read here. The draw is that of [`index::sample`] with as many indices as there are items for its length: `budget`,
-/// `indices`, which has to have an entry for each item drawn, and `scratch` are those of that call.
+/// is read here. The draw is that of [`index::sample`] with the count of items as its length. `budget`, `indices` and `scratch` are
+/// those of that call; `indices` needs an entry for each item drawn.
 ///
 /// ```
 /// use gapyndura::Xoshiro256PlusPlus;
@@ -347,12 +351,16 @@ impl<T> fmt::Debug for Viewed<'_, '_, T> {
 ///
 /// # Errors
 ///
-/// The first of these that applies: [`ZeroState`](Refusal::ZeroState); [`TooLong`](Refusal::TooLong), for more than
-/// 2^32 - 2 items; [`SliceTooShort`](Refusal::SliceTooShort), for fewer entries of `indices` than items to be drawn;
-/// [`ScratchTooShort`](Refusal::ScratchTooShort), for fewer entries of `scratch` than items, only where the method in place is
-/// due; and [`BudgetExhausted`](Refusal::BudgetExhausted), where `budget` words are read and one more is needed. Then there is no
-/// view. With the last of them exactly `budget` words are read, and both slices are as such a draw leaves them in
-/// [`index::sample`]; with the others no word is read and no slice changed.
+/// There is no view if one of these applies, the first of which is answered:
+///
+/// - [`ZeroState`](Refusal::ZeroState);
+/// - [`TooLong`](Refusal::TooLong), if there are more than 2^32 - 2 items;
+/// - [`SliceTooShort`](Refusal::SliceTooShort), if `indices` has fewer entries than items are to be drawn;
+/// - [`ScratchTooShort`](Refusal::ScratchTooShort), if the method in place is due and `scratch` has fewer entries than there are items;
+/// - [`BudgetExhausted`](Refusal::BudgetExhausted), if `budget` words are read and one more is needed.
+///
+/// With the last of them exactly `budget` words are read, and both slices are as [`index::sample`] leaves them then. With the others no
+/// word is read and no slice changed.
 ///
 /// ```
 /// use gapyndura::{Refusal, Xoshiro256PlusPlus};
@@ -379,8 +387,8 @@ pub fn sample<'a, 'i, T>(
     scratch: &mut [u32],
 ) -> Result<Viewed<'a, 'i, T>, SampleError> {
     let count = items.len() as u64;
-    // A list may have one item less than an index sample has places. Too long a list is handed on as a length that is too
-    // long there, so that the refusal, and the one before it, come from the proved call.
+    // A list may have one item less than the longest length of an index sample. If it is too long, a length that is too long there
+    // is handed on, so that the refusal, and the one before it, come from the proved call.
     let length = if count > MOST_ITEMS { u64::MAX } else { count };
     let amount = amount.min(count);
     let sampled = index::sample(rng, length, amount, budget, indices, scratch)?;

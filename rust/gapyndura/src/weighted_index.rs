@@ -9,14 +9,15 @@ use crate::boundary::{
 };
 use crate::{Refusal, Xoshiro256PlusPlus};
 
-/// The record of a table of weights. The running sums that go with it stand in a slice of the caller's, which is lent to
+/// The record of a table of weights (SCOPE 13). The running sums that go with it stand in a slice of the caller's, which is lent to
 /// every call.
 ///
-/// Sum i adds the weights 0 to i, for every weight but the last: `count - 1` sums, none for one weight. Entries of the slice
-/// past them are neither read nor changed.
+/// Sum i adds the weights 0 to i. There is one for every weight but the last: `count - 1` sums, and none for one weight. Entries of
+/// the slice past them are neither read nor changed.
 ///
 /// The record and the slice go together as the last accepted call has left them. Both can be kept, copied or made up freely:
-/// each call looks at all sums, and declines those of no list of weights.
+/// each call looks at all sums, and declines a broken table, that is one that is not whole. A table is whole if the count and the total are at least 1, the
+/// slice has at least `count - 1` entries, and no sum is below the one before it or above the total.
 ///
 /// ```
 /// use gapyndura::Xoshiro256PlusPlus;
@@ -50,7 +51,7 @@ pub struct Picked {
     pub words: u64,
 }
 
-/// Why nothing is picked, and the words read before that was seen.
+/// Why nothing is picked, and the words read before the call was declined.
 #[derive(Clone, Copy, Debug, PartialEq, Eq, Hash)]
 pub struct PickError {
     /// The cause.
@@ -79,7 +80,7 @@ impl From<PickError> for Refusal {
 }
 
 impl WeightedIndex {
-    /// Makes the table of these weights: answers its record, and writes its sums to the front of `cumulative_weights`.
+    /// Makes the table of these weights (SCOPE 13): answers its record, and writes its sums to the front of `cumulative_weights`.
     ///
     /// It is the table of rand's `WeightedIndex::new`. Entries past the sums never change.
     ///
@@ -98,10 +99,13 @@ impl WeightedIndex {
     ///
     /// # Errors
     ///
-    /// The first of these that applies: [`TooLong`](Refusal::TooLong), for more than 2^32 - 2 weights;
-    /// [`NoWeights`](Refusal::NoWeights); [`SliceTooShort`](Refusal::SliceTooShort), for fewer entries of
-    /// `cumulative_weights` than there are sums; [`Overflow`](Refusal::Overflow), for weights that sum above 2^32 - 1;
-    /// [`InsufficientNonZero`](Refusal::InsufficientNonZero). Then the slice is unchanged.
+    /// The first of these that applies. The slice is then unchanged.
+    ///
+    /// - [`TooLong`](Refusal::TooLong), if there are more than 2^32 - 2 weights;
+    /// - [`NoWeights`](Refusal::NoWeights);
+    /// - [`SliceTooShort`](Refusal::SliceTooShort), if `cumulative_weights` has fewer entries than there are sums;
+    /// - [`Overflow`](Refusal::Overflow), if the weights sum above 2^32 - 1;
+    /// - [`InsufficientNonZero`](Refusal::InsufficientNonZero), if every weight is 0.
     ///
     /// ```
     /// use gapyndura::Refusal;
@@ -115,7 +119,7 @@ impl WeightedIndex {
     #[inline]
     pub fn new(weights: &[u32], cumulative_weights: &mut [u32]) -> Result<Self, Refusal> {
         let mut table = [0; 2];
-        // SAFETY: the pointer of a slice is not null, also where the slice is empty, is aligned, and is good for the slice's
+        // SAFETY: the pointer of a slice is not null, not even if the slice is empty, is aligned, and is good for the slice's
         // length. All that is written is borrowed for that, hence overlaps nothing.
         let number = unsafe {
             gapyndura_weights_new(
@@ -130,11 +134,11 @@ impl WeightedIndex {
         Ok(Self::from_boundary(table))
     }
 
-    /// Gives each of `places` its weight of `weights`, and so changes the record and the sums.
+    /// Changes weights: the weight at `places[j]` becomes `weights[j]`, in the record and the sums (SCOPE 13).
     ///
-    /// It is the table that rand's `WeightedIndex::update_weights` leaves. Places count from 0 and must increase. An empty
-    /// change is accepted. What the weights sum to is weighed when all are changed, so a list may raise one first and lower another
-    /// after it. Entries past the sums never change.
+    /// The new table is the one that rand's `WeightedIndex::update_weights` leaves. Places count from 0 and must increase. An empty
+    /// change is accepted. The new total is checked when all weights are changed, so a list may first raise one weight and then lower
+    /// another. Entries past the sums never change.
     ///
     /// ```
     /// use gapyndura::weighted_index::WeightedIndex;
@@ -151,12 +155,15 @@ impl WeightedIndex {
     ///
     /// # Errors
     ///
-    /// The first of these that applies: [`TooLong`](Refusal::TooLong), for a count or a list of weights above 2^32 - 2;
-    /// [`InvalidTable`](Refusal::InvalidTable); [`SliceTooShort`](Refusal::SliceTooShort), for lists that differ in length;
-    /// then for each item in turn [`PlacesNotIncreasing`](Refusal::PlacesNotIncreasing) and
-    /// [`PlaceOutOfRange`](Refusal::PlaceOutOfRange); after all items [`Overflow`](Refusal::Overflow), where the changed weights
-    /// sum above 2^32 - 1, and [`InsufficientNonZero`](Refusal::InsufficientNonZero), where every weight would be 0. Then the
-    /// record and the slice are unchanged.
+    /// The first of these that applies. The record and the slice are then unchanged.
+    ///
+    /// - [`TooLong`](Refusal::TooLong), if the count or the length of `weights` is above 2^32 - 2;
+    /// - [`InvalidTable`](Refusal::InvalidTable), if the table is broken;
+    /// - [`SliceTooShort`](Refusal::SliceTooShort), if the lists differ in length;
+    /// - for each place in turn [`PlacesNotIncreasing`](Refusal::PlacesNotIncreasing), then
+    ///   [`PlaceOutOfRange`](Refusal::PlaceOutOfRange);
+    /// - [`Overflow`](Refusal::Overflow), if the changed weights sum above 2^32 - 1;
+    /// - [`InsufficientNonZero`](Refusal::InsufficientNonZero), if every weight would be 0.
     ///
     /// ```
     /// use gapyndura::Refusal;
@@ -190,12 +197,12 @@ impl WeightedIndex {
                 weights.len(),
             )
         };
-        // Written where the change is accepted, and what it was where it is refused.
+        // The new record if the change is accepted, else the one that was handed over.
         *self = Self::from_boundary(table);
         Refusal::check(number)
     }
 
-    /// The weight at a place, and none beyond the last.
+    /// The weight at a place, or `None` beyond the last (SCOPE 13).
     ///
     /// It is that of rand's `WeightedIndex::weight`.
     ///
@@ -212,8 +219,10 @@ impl WeightedIndex {
     ///
     /// # Errors
     ///
-    /// The first of these that applies: [`TooLong`](Refusal::TooLong), for a count above 2^32 - 2;
-    /// [`InvalidTable`](Refusal::InvalidTable).
+    /// The first of these that applies:
+    ///
+    /// - [`TooLong`](Refusal::TooLong), if the count is above 2^32 - 2;
+    /// - [`InvalidTable`](Refusal::InvalidTable), if the table is broken.
     ///
     /// ```
     /// use gapyndura::Refusal;
@@ -244,11 +253,11 @@ impl WeightedIndex {
         Ok((is_there == 1).then_some(weight as u32))
     }
 
-    /// Picks an item by its weight.
+    /// Picks an item by its weight (SCOPE 14).
     ///
-    /// The item, and the words read for it, are those of rand's `WeightedIndex::sample`: each word picks one item or is
-    /// dropped, and an item of weight w is picked by w * floor(2^32 / total) of the 2^32 words. No item of weight 0 is picked.
-    /// The pick stops when `budget` words are read.
+    /// The item, and the words read for it, are those of rand's `WeightedIndex::sample`. Each word picks one item or is
+    /// dropped: an item of weight w is picked by w * floor(2^32 / total) of the 2^32 words. No item of weight 0 is picked.
+    /// `budget` is the most words that the call may read.
     ///
     /// ```
     /// use gapyndura::Xoshiro256PlusPlus;
@@ -264,10 +273,15 @@ impl WeightedIndex {
     ///
     /// # Errors
     ///
-    /// The first of these that applies: [`ZeroState`](Refusal::ZeroState); [`TooLong`](Refusal::TooLong), for a count above
-    /// 2^32 - 2; [`InvalidTable`](Refusal::InvalidTable); and [`BudgetExhausted`](Refusal::BudgetExhausted), where `budget`
-    /// words are read and all of them dropped. A pick advances the generator by the words that it reads, and so does the last
-    /// of these, by exactly `budget` words; with the others no word is read and the generator stays.
+    /// The first of these that applies:
+    ///
+    /// - [`ZeroState`](Refusal::ZeroState);
+    /// - [`TooLong`](Refusal::TooLong), if the count is above 2^32 - 2;
+    /// - [`InvalidTable`](Refusal::InvalidTable), if the table is broken;
+    /// - [`BudgetExhausted`](Refusal::BudgetExhausted), if `budget` words are read and all of them dropped.
+    ///
+    /// With the last of them the generator is advanced by exactly `budget` words. With the others no word is read and the generator
+    /// stays.
     ///
     /// ```
     /// use gapyndura::{Refusal, Xoshiro256PlusPlus};

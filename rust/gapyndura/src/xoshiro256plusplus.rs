@@ -3,7 +3,7 @@
 use crate::Refusal;
 use crate::boundary::{gapyndura_from_seed, gapyndura_next_u32, gapyndura_seed_from_u64};
 
-/// The generator xoshiro256++ of Blackman and Vigna, as four words of state.
+/// The generator xoshiro256++ of Blackman and Vigna, as four words of state (SCOPE 4).
 ///
 /// Two generators are equal exactly if their states are.
 #[derive(Clone, Debug, PartialEq, Eq)]
@@ -12,8 +12,8 @@ pub struct Xoshiro256PlusPlus {
 }
 
 impl Xoshiro256PlusPlus {
-    /// The generator whose state is the 32 bytes read as four little-endian words. All-zero bytes, which make no
-    /// generator, give that of [`seed_from_u64`](Self::seed_from_u64) at 0.
+    /// The generator whose state is the 32 bytes read as four little-endian words. If all bytes are 0, which makes no
+    /// generator, it is that of [`seed_from_u64`](Self::seed_from_u64) for 0.
     ///
     /// ```
     /// use gapyndura::Xoshiro256PlusPlus;
@@ -54,8 +54,8 @@ impl Xoshiro256PlusPlus {
         Self { state }
     }
 
-    /// The generator with these four words of state. Any are taken: a generator with all four 0 would give 0 for ever,
-    /// and it is the calls that draw from it that decline it.
+    /// The generator with these four words of state. Any words are taken. If all four are 0, the calls that draw from the
+    /// generator decline it: it would give 0 for ever.
     ///
     /// ```
     /// use gapyndura::Xoshiro256PlusPlus;
@@ -80,9 +80,9 @@ impl Xoshiro256PlusPlus {
         self.state
     }
 
-    /// Draws one word of 32 bits: the upper half of the generator's next output.
+    /// Draws one word of 32 bits: the upper half of the generator's next output (SCOPE 15).
     ///
-    /// It is that of rand's `next_u32`. The generator is lent to the call and is one step on afterwards.
+    /// It is the word of rand's `next_u32`. The generator is lent to the call and is one step further afterwards.
     ///
     /// ```
     /// use gapyndura::Xoshiro256PlusPlus;
@@ -96,7 +96,7 @@ impl Xoshiro256PlusPlus {
     ///
     /// # Errors
     ///
-    /// [`ZeroState`](Refusal::ZeroState). Then no word is read; else it is one.
+    /// [`ZeroState`](Refusal::ZeroState). Then no word is read; otherwise exactly one is.
     ///
     /// ```
     /// use gapyndura::{Refusal, Xoshiro256PlusPlus};

@@ -3,7 +3,7 @@
 /// The bytes of one 64-bit word.
 const WORD: usize = size_of::<u64>();
 
-/// Reads `N` little-endian words from the front of `src`. Document 01 fixes this meaning for the 32 bytes of a seed.
+/// Reads `N` little-endian words from the front of `src`. That is what SCOPE 4 says of the 32 bytes of a seed.
 ///
 /// # Panics
 ///

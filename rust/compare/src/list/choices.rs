@@ -121,7 +121,7 @@ fn lists() -> Section {
 fn budgets() -> Section {
     let between_coins = line(some_state(640), 5, 7);
     let coins = line(some_state(641), 20, 0);
-    // Of 12 items at least 6 remain: the draw below 6 with two words that document 01 works out, then one below 9, and coins.
+    // Of 12 items at least 6 remain: the draw below 6 with two words of SCOPE 18, then one below 9, and coins.
     let draws = line(giving(715827882, 2863311531, 1), 12, 2);
     let mut calls = Vec::new();
     for of in [between_coins, draws] {

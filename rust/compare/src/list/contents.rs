@@ -207,7 +207,7 @@ fn steps() -> Section {
     )
 }
 
-/// The draws that documents 01 and 02 mark, each held to what it says. Those of shuffles and of weights are with these.
+/// The draws of SCOPE 18, each held to what it says. Those of shuffles and of weights are with these.
 fn marked() -> Section {
     // The words, the value, and how many words are read.
     let drawn = [
@@ -240,10 +240,7 @@ fn marked() -> Section {
         });
         calls.push(held(call, &indices, 2));
     }
-    Section::new(
-        "The draws and the samples that documents 01 and 02 work out",
-        calls,
-    )
+    Section::new("The draws and the samples of SCOPE 18", calls)
 }
 
 /// Draws below 6 that read four words and five, with every budget. The fourth settles the value but for one word.

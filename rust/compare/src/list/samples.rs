@@ -117,7 +117,7 @@ fn outcome(call: &Call) -> (u64, bool) {
     (ended.number, scratch.iter().any(|&entry| entry != 0))
 }
 
-/// The choices that document 01 marks, each held to what it says: whether it is in place, which alone writes the scratch slice.
+/// The choices that SCOPE 6 names, each held to what it says: whether it is in place, which alone writes the scratch slice.
 fn marked() -> Section {
     let marked = [
         (350, 12, true),
@@ -133,7 +133,7 @@ fn marked() -> Section {
         assert_eq!(outcome(&call), (0, is_in_place), "{call:?}");
         calls.push(call);
     }
-    Section::new("Samples at the lengths that document 01 marks", calls)
+    Section::new("Samples at the lengths that SCOPE 6 names", calls)
 }
 
 /// Choices that a refusal shows: 9 with too short a scratch slice, in place; 13 with a budget of 0, rejection, since Floyd's method is due for

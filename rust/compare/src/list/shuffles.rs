@@ -114,7 +114,7 @@ fn fill_within(from: State, items_len: usize, buf_len: usize, budget: u64) -> Ca
     })
 }
 
-/// The shuffle that document 01 works out, held to what it says, and those of the chunks before and after; and the bounds of the two chunks
+/// The shuffle of SCOPE 18, held to what it says, and those of the chunks before and after; and the bounds of the two chunks
 /// that it works out, which show in the words: two items from place 65534 on take one word, and two from place 65535 on take two.
 fn marked() -> Section {
     // The first words that give the chunks 6, 7 and 8.
@@ -126,7 +126,7 @@ fn marked() -> Section {
         calls.push(call);
     }
     Section::new(
-        "Three items shuffled by the chunks 6, 7 and 8; document 01 works out 7. The chunks from 65535 and from 65536 on",
+        "Three items shuffled by the chunks 6, 7 and 8, of which 7 is in SCOPE 18. The chunks from 65535 and from 65536 on",
         calls,
     )
 }

@@ -111,7 +111,7 @@ fn weight(place: u64, table: Changed) -> Call {
     Call::Weight(Looking { from, place, table })
 }
 
-/// The table that document 01 works out: c = 1 picks 0 and c = 2 picks 2; place 1 changed to 4 makes the sums 2 and 6 and the total 9.
+/// The table of SCOPE 18: c = 1 picks 0 and c = 2 picks 2; place 1 changed to 4 makes the sums 2 and 6 and the total 9.
 fn marked() -> Section {
     let weights = [2, 0, 3];
     let mut calls = [(1 << 30, 0), (1 << 31, 2)]
@@ -130,7 +130,7 @@ fn marked() -> Section {
         let from = giving(word, 0, 1);
         calls.push(held(pick(from, change.clone()), &[index], 1));
     }
-    Section::new("The table of 2, 0, 3 that document 01 works out", calls)
+    Section::new("The table of 2, 0, 3 of SCOPE 18", calls)
 }
 
 /// Whole tables with entries past the sums and without, each picked from, and each place and the one behind the last looked up.

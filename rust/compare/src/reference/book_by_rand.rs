@@ -1,5 +1,5 @@
 //! A runner of draw books in plain Rust over rand, as one would write it without a port: what the port's program is measured against. The
-//! reference is [`book_jobs`](crate::book_jobs), which holds rand to the lists and methods of document 01 and is slow by that.
+//! reference is [`book_jobs`](crate::book_jobs), which holds rand to the lists and methods of the scope and is slow by that.
 
 use std::fmt::Write;
 

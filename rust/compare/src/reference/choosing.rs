@@ -8,7 +8,7 @@ use crate::sampling::Ended;
 use crate::shuffling;
 use crate::{Counting, State, advanced, counted};
 
-/// The number of document 01's table for hints that do not hold (there: "false hints").
+/// The number of the refusal for hints that are false (SCOPE 2).
 pub const INVALID_HINTS: u64 = 11;
 
 /// The entry that says that there is no upper hint.
@@ -148,7 +148,7 @@ pub fn choose(from: State, lists: Lists<'_>, budget: u64) -> Chosen {
 ///
 /// # Panics
 ///
-/// If it is not document 01's, made coin by coin.
+/// If it is not the choice of SCOPE 12, made coin by coin.
 #[must_use]
 pub fn choose_stable(from: State, lists: Lists<'_>, budget: u64) -> Chosen {
     end_by(from, lists, budget, |rng| {

@@ -1,4 +1,4 @@
-//! Coins and the chance of one over d, written from document 01 alone: a second opinion on rand's, which flips many at once.
+//! Coins and the chance of one over d, written from SCOPE 11 alone: a second opinion on rand's, which flips many at once.
 
 use rand::Rng;
 

@@ -7,7 +7,7 @@ use rand::{Rng, RngExt};
 use crate::Counting;
 use crate::words::WORDS;
 
-/// The number of document 01's table for a draw that needs a word more than its budget (there: "spent").
+/// The number of the refusal for a draw that needs a word more than its budget (SCOPE 2).
 pub const BUDGET_EXHAUSTED: u64 = 13;
 
 /// A drawn value, and the words that were read for it.
@@ -45,7 +45,7 @@ pub fn rejecting(rng: &mut Xoshiro256PlusPlus, r: u32) -> Drawn {
     counted(rng, |rng| range.sample(rng))
 }
 
-/// A rejecting draw at a threshold of any size, written anew from document 01. At 2^32 mod `r` it is rand's.
+/// A rejecting draw at a threshold of any size, written anew from SCOPE 5. At 2^32 mod `r` it is rand's.
 pub fn rejecting_at(rng: &mut Xoshiro256PlusPlus, r: u32, threshold: u64) -> Drawn {
     counted(rng, |rng| {
         loop {

@@ -22,7 +22,7 @@ pub struct Filling {
 /// A way to end a fill from items, which are as many as the call says, and which leaves the buffer as it then is.
 pub type Fill = fn(&Filling, &[u32], &mut [u32]) -> Ended;
 
-/// The slots that the items past the buffer draw, one for each, and the words read when each is drawn. Written anew from document 01.
+/// The slots that the items past the buffer draw, one for each, and the words read when each is drawn. Written anew from SCOPE 10.
 #[derive(Clone, Debug)]
 pub struct Slots {
     pub slots: Vec<u32>,

@@ -1,4 +1,4 @@
-//! The three methods of index sampling and the choice among them, written anew from document 01.
+//! The three methods of index sampling and the choice among them, written anew from SCOPE 6 and 7.
 //!
 //! rand hands out the indices alone. What else is known of its sample is got by making the same draws again in the way of
 //! the method, and [`by_rand`] holds every one of these to rand's own indices, words and generator.
@@ -239,7 +239,7 @@ mod tests {
 
     use super::{Method, arranged, due, entries, floyd_from, seen};
 
-    /// Document 01's marked samples of two out of three, and what the first draw alone leaves; and two exchanges of four places.
+    /// The samples of two out of three of SCOPE 18, and what the first draw alone leaves; and two exchanges of four places.
     #[test]
     fn values_of_draws_make_samples() {
         assert_eq!(entries(1, &[1, 1]), [2, 1]);
@@ -249,7 +249,7 @@ mod tests {
         assert_eq!(arranged(4, &[]), [0, 1, 2, 3]);
     }
 
-    /// Document 01's marked choices, each seen in rand's own sample.
+    /// The choices that SCOPE 6 names, each seen in rand's own sample.
     #[test]
     fn the_marked_choices_are_rands() {
         let rng = Xoshiro256PlusPlus::seed_from_u64(1);

@@ -1,9 +1,8 @@
-//! Document 01's plain list of weights, to which every table of running sums is held.
+//! The plain list of weights (SCOPE 13), to which every table of running sums is held.
 
 use crate::sampling::{SLICE_TOO_SHORT, TOO_LONG};
 
-/// The numbers of document 01's table for the refusals that only weights have. Its word for each: "no list", "flooded", "dry",
-/// "out of turn", "no such row", "broken table".
+/// The numbers of the refusals that only weights have (SCOPE 2).
 pub const NO_WEIGHTS: u64 = 2;
 pub const OVERFLOW: u64 = 3;
 pub const INSUFFICIENT_NON_ZERO: u64 = 4;
@@ -164,7 +163,7 @@ impl PlainList {
 mod tests {
     use super::{PlainList, Record};
 
-    /// Document 01's marked picks and change.
+    /// The picks and the change of SCOPE 18.
     #[test]
     fn the_marked_table_picks_and_changes() {
         let list = PlainList::new(&[2, 0, 3], 2).expect("a table");

@@ -8,8 +8,7 @@ use crate::methods::{Method, Sample, arranged, by_rand, due, entries};
 use crate::panics::panics;
 use crate::{State, advanced, from_state, state};
 
-/// The numbers of document 01's table for the other refusals. Its word for each: "overdrawn", "short tray", "short bench",
-/// "too long", "dead generator".
+/// The numbers of the other refusals (SCOPE 2).
 pub(crate) const AMOUNT_EXCEEDS_LENGTH: u64 = 1;
 pub const SLICE_TOO_SHORT: u64 = 8;
 pub(crate) const SCRATCH_TOO_SHORT: u64 = 9;

@@ -86,7 +86,7 @@ pub fn refusal(from: State, items: usize) -> Option<u64> {
     (items > MOST_ITEMS).then_some(TOO_LONG)
 }
 
-/// The exchanges of a shuffle and the draws that they come from, written anew from document 01.
+/// The exchanges of a shuffle and the draws that they come from, written anew from SCOPE 9.
 #[derive(Clone, Debug)]
 pub struct Exchanges {
     /// The two places of each, in their order.
@@ -248,7 +248,7 @@ pub fn shuffle(call: &Whole, items: &mut [u32]) -> Outcome {
     })
 }
 
-/// The bound of the chunk that is drawn where the next index is one below m, and its number of factors, by document 01: m, m + 1
+/// The bound of the chunk that is drawn if the next index is one below m, and its number of factors (SCOPE 9): m, m + 1
 /// and so on, as many as keep their product within 2^32 - 1.
 #[must_use]
 pub fn chunk(m: u32) -> (u32, u32) {
@@ -301,7 +301,7 @@ mod tests {
         assert_eq!(chunk(2), (479_001_600, 11));
     }
 
-    /// Document 01's marked shuffle.
+    /// The shuffle of SCOPE 18.
     #[test]
     fn a_chunk_of_7_turns_three_items_round() {
         let mut items = [1, 2, 3];

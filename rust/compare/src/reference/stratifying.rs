@@ -8,7 +8,7 @@ use crate::sampling::{
 };
 use crate::{Counting, State, counted};
 
-/// The number of document 02 for lists of unequal count and for a whole that is too long.
+/// The number of the refusal for lists that differ in count and for a whole that is too long (SCOPE 2).
 pub const PARTS_MISMATCH: u64 = 17;
 
 /// The length of a part, and its amount.

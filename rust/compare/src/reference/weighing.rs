@@ -180,7 +180,7 @@ impl Held {
     ///
     /// # Panics
     ///
-    /// If rand's pick is not that of document 01's draw and search.
+    /// If rand's pick is not that of the draw and the search of SCOPE 14.
     #[must_use]
     pub fn pick(&self, from: State, budget: u64) -> Ended {
         let mut rng = from_state(from);
@@ -269,7 +269,7 @@ mod tests {
     use crate::panics::panics;
     use crate::words::giving;
 
-    /// Document 01's marked table: the word 2^31 gives c = 2 of 5, the word 2^30 gives c = 1.
+    /// The table of SCOPE 18: the word 2^31 gives c = 2 of 5, the word 2^30 gives c = 1.
     #[test]
     fn the_marked_picks_are_rands() {
         let held = Held::new(&[2, 0, 3], 2).expect("a table");

@@ -154,7 +154,7 @@ mod tests {
     use crate::states::giving_three;
     use crate::{draws, from_state};
 
-    /// Document 02's words below 6, and what they read. Among the rows is a first word with the same low half, 2^31 above the marked one.
+    /// The words below 6 of SCOPE 18, and how many are read. Among the rows is a first word with the same low half, 2^31 above the one there.
     #[test]
     fn the_marked_rows_are_among_them() {
         let (a, b) = (715_827_882, 2_863_311_530);

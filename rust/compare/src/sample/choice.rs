@@ -105,8 +105,8 @@ impl Kind for Choice {
         amounts.chain(lengths).collect()
     }
 
-    /// The method that gives rand's sample. Where several do, and where rand's sample would take much memory, it is the one by
-    /// document 01's rule, with Rust's own rounding.
+    /// The method that gives rand's sample. If several do, or if rand's sample would take much memory, it is the one by the rule of
+    /// SCOPE 6, with Rust's own rounding.
     fn rand(choice: &Input) -> Option<Method> {
         let Input {
             length,

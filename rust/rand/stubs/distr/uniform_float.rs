@@ -1,7 +1,7 @@
 //! Stands in for a file of rand that was not delivered.
 //!
-//! Sampling by float weights draws from a float range, so the type must be there for that to compile. Document 01 leaves
-//! float weights out: nothing that is compared comes here, and a call that does would say so.
+//! Sampling by float weights draws from a float range, so the type must be there for that to compile. Float weights are not
+//! ported (SCOPE 1): nothing that is compared comes here, and a call that does would say so.
 
 use super::{Error, SampleBorrow, SampleUniform, UniformSampler};
 use crate::Rng;
