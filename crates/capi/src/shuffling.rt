@@ -6,7 +6,6 @@ ghost use Rattle.slice.specs.Shuffled.{partialShuffleOf, wholeShuffleOf};
 use boundary::state::load;
 use boundary::state::report;
 use slice::partial_shuffle;
-use slice::shuffle;
 
 // `partial_shuffle` for C: the definition `partialShuffleOf`, written out as `shuffled` says.
 #[no_mangle]
@@ -26,7 +25,8 @@ pub extern "C" fn gapyndura_partial_shuffle(
     outcome.number()
 }
 
-// `shuffle` for C: the definition `wholeShuffleOf`, written out as `shuffled` says.
+// `shuffle` for C: the definition `wholeShuffleOf`, written out as `shuffled` says. Both C functions share one body, which alone holds the code of a
+// shuffle: the generator then stays in registers between the caller's memory and the loop.
 #[no_mangle]
 pub extern "C" fn gapyndura_shuffle(
     state: &mut [u64; 4],
@@ -36,9 +36,6 @@ pub extern "C" fn gapyndura_shuffle(
 ) -> u32
     ensures { λ r. ⌜ record { number = r; state = now (state .exit); out = now (out .exit); items = now (items .exit) } ≡ shuffled (wholeShuffleOf budget (generator (now (state .entry))) (now (items .entry))) ⌝ }
 {
-    let s = shuffle(load(*state), items, budget);
-    let rng = s.rng;
-    report(rng, s.words, s.n, state, out);
-    let outcome = s.outcome;
-    outcome.number()
+    let amount = items.len() as u64;
+    gapyndura_partial_shuffle(state, items, amount, budget, out)
 }

@@ -1,6 +1,6 @@
 -- The two turns of a choice, as the code takes them.
 -- Assumes nothing.
-use mathlib.Core.Path.{_≡_, sym}
+use mathlib.Core.Path.{_≡_, refl, sym}
 use mathlib.Core.Bool.{true, false}
 use mathlib.Core.List.{List, [], _∷_}
 use Prim.Native.Nat.{ℕ, _+_, _-_, _≤_, _<_}
@@ -16,11 +16,12 @@ use Rattle.uniform_int.specs.declared.Sampled.{Sampled}
 use Rattle.uniform_int.specs.declared.Draw.the-variants.{Value, Spent as NoValue}
 use Rattle.uniform_int.proofs.Laws.{within-words}
 use Rattle.coin_flipper.specs.Within.{Coins, oneOverWithin}
-use Rattle.coin_flipper.specs.State.{seen, told, Held}
+use Rattle.coin_flipper.specs.State.{seen, told, Held, AllNo}
 use Rattle.coin_flipper.specs.declared.CoinFlipper.{CoinFlipper}
 use Rattle.coin_flipper.specs.declared.Flip.the-variants.{Yes, No, Spent}
 use Rattle.coin_flipper.specs.declared.Flipped.{Flipped}
-use Rattle.choose.specs.Turns.{heldAt, turned, byCoin, byDraw}
+use Rattle.coin_flipper.specs.declared.Noes.{Noes}
+use Rattle.choose.specs.Turns.{Skips, heldAt, turned, byCoin, byDraw}
 use Rattle.choose.specs.Choose.{turnOf}
 
 -- what is held at a place of the items, and past the last
@@ -80,3 +81,17 @@ module _ (budget l p : ℕ) (items held : List ℕ) (s : Coins) where
   pub turn-coin : l ≤ 1 → turnOf budget l p (drop p items) held s ≡ byCoin budget (p + 1) (getD items p 0) held s
   unfolding turnOf
   turn-coin h = rw (le-ltb 1 l h, getD-drop p items 0 0, add-zero p, add-one p)
+
+-- ---- items that are passed over
+
+module _ (at count hints : ℕ) (f : CoinFlipper) (h : Held (f .words) f) (l : at ≤ count) where
+  -- none
+  pub stays : Skips at count hints f (record { place = at; flipper = f })
+  unfolding AllNo
+  stays = record { many = 0; place = sym (add-zero at); upto = l; unhinted = λ k. absurd (omega arith); late = λ k. absurd (omega arith); no = refl; held = h }
+
+  -- some
+  pub passes : (n : Noes) → AllNo 8 (n .count) (seen f) (seen (n .flipper)) → Held (f .words) (n .flipper) → hints ≡ 0 → 255 ≤ at → n .count ≤ count - at
+      → Skips at count hints f (record { place = at + n .count; flipper = n .flipper })
+  passes n a g e m k =
+      record { many = n .count; place = refl; upto = omega arith; unhinted = λ i. e; late = λ i. omega arith; no = a; held = g }

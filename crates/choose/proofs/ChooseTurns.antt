@@ -3,23 +3,25 @@
 use mathlib.Core.Path.{_≡_, refl, sym, ap, _∙_}
 use mathlib.Core.Bool.{true, false, cond}
 use mathlib.Core.List.{List, [], _∷_}
-use Prim.Native.Nat.{ℕ, zero, suc, _+_, _-_, _≤_, _<_}
+use Prim.Native.Nat.{ℕ, zero, suc, _+_, _-_, _^_, _≤_, _<_}
 use native.Mathlib.Nat.{add-zero, add-suc, suc-add}
 use native.Mathlib.Omega.{arith}
-use lib.ListN.{length, drop, getD, drop-of-length-le}
+use lib.ListN.{length, drop, getD, drop-of-length-le, length-drop}
 use lib.Seq.{drop-cons, drop-drop}
 use Rattle.refusal.specs.Answer.{done, declined}
 use Rattle.refusal.specs.declared.Refusal.the-variants.{BudgetExhausted}
 use Rattle.uniform_int.specs.Rejecting.{Drawing}
 use Rattle.coin_flipper.specs.Within.{Coins, Flipping}
-use Rattle.coin_flipper.specs.State.{seen, Held}
+use Rattle.coin_flipper.specs.State.{seen, Held, AllNo}
 use Rattle.coin_flipper.specs.declared.CoinFlipper.{CoinFlipper}
 use Rattle.coin_flipper.proofs.Laws.{held-more}
-use Rattle.choose.specs.Turns.{heldAt, turned, ending, after}
+use Rattle.choose.specs.Turns.{Skips, heldAt, turned, ending, after}
 use Rattle.choose.specs.Hints.{LowerHolds}
 use Rattle.choose.specs.Choose.{turnOf, drawnLast, chooseFrom}
+use Rattle.choose.specs.declared.turns.Ahead.{Ahead}
 use Rattle.choose.specs.declared.turns.Turn.{Turn}
 use Rattle.choose.proofs.ChoiceTurns.{held-none}
+use Rattle.choose.proofs.StableTurns.{one-by-one, no-hints, passed-over}
 
 -- items that were drawn for are passed over
 pub skipped : (budget : ℕ) (lower upper items : List ℕ) (skip p : ℕ) (held : List ℕ) (s : Coins)
@@ -51,6 +53,27 @@ module _ (budget : ℕ) (lower upper items : List ℕ) (s₀ : Coins) where
     pub finish : length items ≤ p → Ended held f
     unfolding chooseFrom
     finish h = rw (drop-of-length-le items h) at (t .goes)
+
+    -- items whose questions say no are passed over
+    over : (k : ℕ) (c : Coins) → (0 < k → length lower ≡ 0) → (0 < k → 2 ^ 8 ≤ suc p) → p + k ≤ length items → AllNo 8 k (seen f) c
+        → chooseFrom budget lower upper (drop (p + k) items) 0 (p + k) (heldAt items held) c ≡ whole
+    unfolding AllNo
+    over zero c e l m a = rw (sym a, add-zero p) (t .goes)
+    over (suc k) c e l m a =
+        let g = no-hints lower (e (omega arith)) in
+        let o = one-by-one budget lower upper in
+        o (drop (p + suc k) items) g (p + suc k) (heldAt items held) c
+        ∙ sym (passed-over budget 8 (suc k) (drop p items) p (heldAt items held) (seen f) c a (l (omega arith)) (omega (arith, length-drop p items)) ∙ rw (drop-drop (suc k) p items))
+        ∙ sym (o (drop p items) g p (heldAt items held) (seen f))
+        ∙ t .goes
+
+    pub skip : (r : Ahead) → Skips p (length items) (length lower) f r → Turns (r .place) held (r .flipper)
+    skip r k =
+        record {
+          goes = rw (k .place) (over (k .many) (seen (r .flipper)) (k .unhinted) (k .late) (omega (arith, k .place, k .upto)) (k .no));
+          good = held-more (f .words) budget (r .flipper) (t .good .few) (k .held);
+          upto = k .upto;
+        }
 
     module _ (h : p < length items) (r : Turn) (e : turned items r ≡ turnOf budget (getD lower p 0) p (drop p items) (heldAt items held) (seen f)) where
       abbrev rest : List ℕ → Coins → Drawing

@@ -2,17 +2,19 @@
 -- Assumes nothing.
 use mathlib.Core.Path.{_≡_, refl, sym, ap, _∙_}
 use mathlib.Core.Bool.{Bool, true, false, _&&_}
+use mathlib.Core.Logic.{⊎-elim}
 use mathlib.Core.List.{List, [], _∷_}
 use Prim.Native.Nat.{ℕ, zero, suc, _+_, _-_, _≤_, _<_}
 use native.Mathlib.Nat.{sub-zero}
 use native.Mathlib.Numerals.{add-one}
 use native.Mathlib.Omega.{arith}
 use lib.Dec.{leb, eqb}
-use lib.ListN.{length, drop, getD, drop-of-length-le}
+use lib.ListN.{length, drop, getD, drop-of-length-le, List·getD-eq-default}
 use lib.Seq.{drop-cons}
 use borrow.Author.Tests.{leb-true, eqb-true, eq-eqb, ne-eqb}
 use Rattle.counting.proofs.Tests.{and-true}
-use Rattle.choose.specs.Hints.{boundsHold, hintsHold}
+use Rattle.coin_flipper.proofs.Chunk.{lt-or-le}
+use Rattle.choose.specs.Hints.{boundsHold, hintsHold, NoGroups}
 
 and-false : (a : Bool) → a && false ≡ false
 and-false true = refl
@@ -71,6 +73,34 @@ module _ (n : ℕ) (ls us : List ℕ) where
               rw (e, add-one p)
               (sym (grouped so-far (leb (getD ls p 0) (n - p)) (leb (n - p) (getD us p 0)) (boundsHold (drop (suc p) ls) (drop (suc p) us) (n - p - 1)))
               ∙ ap (λ (b : Bool). so-far && b) (sym (at-place ls us p (n - p) (omega (arith, s .lower)) (omega (arith, s .upper)))) ∙ s .rest);
+        }
+
+-- ---- groups
+
+module _ (ls : List ℕ) where
+  -- what the tests before place p came to
+  pub record Singles (p : ℕ) (so-far : Bool) : Type 0 where
+    pub upto : p ≤ length ls
+    pub before : so-far ≡ true → (q : ℕ) → q < p → getD ls q 0 ≤ 1
+
+  pub no-place : Singles 0 true
+  no-place = record { upto = omega arith; before = λ e q h. absurd (omega arith) }
+
+  module _ (p : ℕ) (so-far : Bool) (s : Singles p so-far) where
+    pub one-more : p < length ls → Singles (p + 1) (so-far && leb (getD ls p 0) 1)
+    one-more h =
+        record {
+          upto = omega arith;
+          before = λ e q k.
+              let a = and-true so-far _ e in
+              ⊎-elim (λ (l : q < p). s .before (a .0) q l) (λ (l : p ≤ q). let i : q ≡ p = omega arith in rw i (leb-true (getD ls p 0) 1 (a .1))) (lt-or-le q p);
+        }
+
+    pub every : length ls ≤ p → so-far ≡ true → NoGroups ls
+    every h e =
+        record {
+          single = λ q.
+              ⊎-elim (λ (l : q < p). s .before e q l) (λ (l : p ≤ q). rw (List·getD-eq-default ls 0 {n = q} (omega arith)) (omega arith)) (lt-or-le q p);
         }
 
 -- ---- what hints that hold say

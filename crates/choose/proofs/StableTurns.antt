@@ -1,13 +1,18 @@
--- The stable choice: the Rust's groups, and `choose` with no hints, come to one question for each item in order.
+-- The stable choice: the Rust's groups, and `choose` without groups, come to one question for each item in order.
 -- Assumes nothing.
-use mathlib.Core.Path.{_≡_, refl}
+use mathlib.Core.Path.{_≡_, refl, _∙_}
 use mathlib.Core.Bool.{Bool, true, false, cond}
 use mathlib.Core.List.{List, [], _∷_}
-use Prim.Native.Nat.{ℕ, zero, suc}
+use Prim.Native.Nat.{ℕ, zero, suc, _+_, _-_, _^_, _≤_}
+use native.Mathlib.Nat.{add-zero, add-suc, suc-add}
+use native.Mathlib.Omega.{arith}
 use lib.Dec.{ltb}
-use lib.ListN.{getD}
+use lib.ListN.{length, drop, getD}
+use borrow.Author.Tests.{le-ltb}
 use Rattle.uniform_int.specs.Rejecting.{Drawing}
 use Rattle.coin_flipper.specs.Within.{Coins, oneOverWithin}
+use Rattle.coin_flipper.specs.State.{AllNo}
+use Rattle.choose.specs.Hints.{NoGroups}
 use Rattle.choose.specs.Turns.{after, given, taking, byCoin}
 use Rattle.choose.specs.Stable.{stableFrom, latest, stableByHints}
 use Rattle.choose.specs.Choose.{turnOf, chooseFrom}
@@ -56,10 +61,28 @@ in-order budget lower (x ∷ xs) (suc zero) p picked held s =
 in-order budget lower (x ∷ xs) (suc (suc k)) p picked held s =
     merged budget (suc p) x s picked held _ _ (λ c t. in-order budget lower xs (suc k) (suc p) c held t)
 
--- ---- no hints
+-- ---- no groups
 
--- with no hints a coin decides at every place
-pub unhinted : (budget : ℕ) (items : List ℕ) (p : ℕ) (held : List ℕ) (s : Coins) → chooseFrom budget [] [] items 0 p held s ≡ stableFrom budget items p held s
+-- if no lower hint is above 1, a coin decides at every place
+pub one-by-one : (budget : ℕ) (lower upper items : List ℕ) → NoGroups lower → (p : ℕ) (held : List ℕ) (s : Coins)
+    → chooseFrom budget lower upper items 0 p held s ≡ stableFrom budget items p held s
 unfolding chooseFrom stableFrom turnOf
-unhinted budget [] p held s = refl
-unhinted budget (x ∷ xs) p held s = alike budget (suc p) x s held held _ _ (λ h t. unhinted budget xs (suc p) h t)
+one-by-one budget lower upper [] g p held s = refl
+one-by-one budget lower upper (x ∷ xs) g p held s =
+    let z : getD lower p 0 - 1 ≡ 0 = omega (arith, g .single p) in
+    rw (le-ltb 1 (getD lower p 0) (g .single p), z) (alike budget (suc p) x s held held _ _ (λ h t. one-by-one budget lower upper xs g (suc p) h t))
+
+pub no-hints : (lower : List ℕ) → length lower ≡ 0 → NoGroups lower
+no-hints [] e = record { single = λ p. omega arith }
+no-hints (x ∷ xs) e = absurd (omega arith)
+
+-- ---- questions that say no
+
+-- the items are passed over, and what is held stays
+pub passed-over : (budget w k : ℕ) (items : List ℕ) (p : ℕ) (held : List ℕ) (s t : Coins) → AllNo w k s t → 2 ^ w ≤ suc p → k ≤ length items
+    → stableFrom budget items p held s ≡ stableFrom budget (drop k items) (p + k) held t
+unfolding AllNo stableFrom byCoin
+passed-over budget w zero items p held s t e h l = rw (e, add-zero p)
+passed-over budget w (suc k) [] p held s t a h l = absurd (omega arith)
+passed-over budget w (suc k) (x ∷ xs) p held s t a h l =
+    rw (a .1 (suc p) budget h) (passed-over budget w k xs (suc p) held (a .0) t (a .2) (omega arith) (omega arith) ∙ rw (add-suc p k, suc-add p k))

@@ -19,3 +19,7 @@ hintsHold n lower upper = eqb (length lower) (n + 1) && (eqb (length upper) (n +
 -- no lower hint is above what remains; a place without an entry has the hint 0
 pub record LowerHolds (n : ℕ) (lower : List ℕ) : Type 0 where
   pub least : (p : ℕ) → p ≤ n → getD lower p 0 ≤ n - p
+
+-- no lower hint is above 1
+pub record NoGroups (lower : List ℕ) : Type 0 where
+  pub single : (p : ℕ) → getD lower p 0 ≤ 1

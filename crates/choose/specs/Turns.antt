@@ -1,7 +1,8 @@
 -- The turns of a choice. What is held goes from turn to turn as the values of the answer to be: one item, or none at the start.
+use mathlib.Core.Path.{_≡_}
 use mathlib.Core.Bool.{cond}
 use mathlib.Core.List.{List, [], _∷_}
-use Prim.Native.Nat.{ℕ, zero, suc, _+_, _-_}
+use Prim.Native.Nat.{ℕ, zero, suc, _+_, _-_, _^_, _≤_, _<_}
 use lib.Dec.{ltb}
 use lib.ListN.{getD, take, drop}
 use Rattle.refusal.specs.Answer.{Answer, done, declined}
@@ -9,10 +10,12 @@ use Rattle.refusal.specs.declared.Refusal.the-variants.{BudgetExhausted}
 use Rattle.uniform_int.specs.Rejecting.{Drawing}
 use Rattle.uniform_int.specs.Within.{boundedWithin}
 use Rattle.coin_flipper.specs.Within.{Coins, Flipping, oneOverWithin}
-use Rattle.coin_flipper.specs.State.{seen}
+use Rattle.coin_flipper.specs.State.{seen, Held, AllNo}
+use Rattle.coin_flipper.specs.declared.CoinFlipper.{CoinFlipper}
 use Rattle.choose.specs.declared.Choice.{Choice}
 use Rattle.choose.specs.declared.Choice.the-variants.{Item, Nothing, Refused}
 use Rattle.choose.specs.declared.Chosen.{Chosen}
+use Rattle.choose.specs.declared.turns.Ahead.{Ahead}
 use Rattle.choose.specs.declared.turns.Turn.{Turn}
 
 -- the number and the values of each case of the answer: "none" is carried out, and has no value
@@ -73,3 +76,13 @@ byDraw budget l p items held s =
       answer = given (drawing budget (l + p) s .answer .values) (λ ix. cond (ltb ix l) (getD items ix 0 ∷ []) held);
       coins = record { left = s .left; rng = drawing budget (l + p) s .rng; words = drawing budget (l + p) s .words };
     }
+
+-- Items from place `at` on are passed over: if any are, there are no hints, each question is for one over 256 or less, and all of them say no.
+pub record Skips (at count hints : ℕ) (f : CoinFlipper) (r : Ahead) : Type 0 where
+  pub many : ℕ
+  pub place : r .place ≡ at + many
+  pub upto : r .place ≤ count
+  pub unhinted : 0 < many → hints ≡ 0
+  pub late : 0 < many → 2 ^ 8 ≤ suc at
+  pub no : AllNo 8 many (seen f) (seen (r .flipper))
+  pub held : Held (f .words) (r .flipper)

@@ -12,6 +12,7 @@ use super::Choice;
 use super::Chosen;
 use super::closing;
 use super::ended;
+use super::turns::skip_noes;
 use super::turns::turn_at;
 use coin_flipper::CoinFlipper;
 use refusal::Refusal;
@@ -45,11 +46,15 @@ pub(crate) fn choose_exact(rng: Xoshiro256PlusPlus, items: &[u32], budget: u64) 
     ended(Choice::Item(item), words, after)
 }
 
-// Whether a turn was a draw for all the items that remain, which is so if both hints agree: the definition `drawnLast`.
-fn drawn_last(least: u32, most: u32) -> bool
-    ensures { λ r. ⌜ r ≡ drawnLast least most ⌝ }
+// Whether a turn was a draw for all the items that remain, which is so if both hints agree: the definition `drawnLast`. The upper hint is read only
+// after a draw.
+fn drawn_last(least: u32, upper: &[u32], place: usize) -> bool
+    ensures { λ r. ⌜ r ≡ drawnLast least (getD (now (upper .entry)) place 0) ⌝ }
 {
-    least > 1 && most == least
+    if least > 1 {
+        return hint_at(upper, place) == least;
+    }
+    false
 }
 
 // How many items a turn is for: so many as are sure to remain, and at least one.
@@ -82,8 +87,8 @@ fn item_at(items: &[u32], place: usize) -> Choice
     Choice::Nothing
 }
 
-// Turn by turn, as the lower hints allow: the definition `chooseFrom`. With no hints it is one question for each item in order. It is one loop
-// for both choosers, so that the coins are flipped in it and not in a call.
+// Turn by turn, as the lower hints allow: the definition `chooseFrom`. With no hints it is one question for each item in order, and those that say no
+// are passed over at once. It is one loop for both choosers, so that the coins are flipped in it and not in a call.
 pub(crate) fn choose_by_hints(
     rng: Xoshiro256PlusPlus,
     items: &[u32],
@@ -99,18 +104,19 @@ pub(crate) fn choose_by_hints(
     let mut consumed: usize = 0;
     while consumed < items.len() {
         let least = hint_at(lower, consumed);
-        let most = hint_at(upper, consumed);
         let turn = turn_at(flipper, held, items, consumed, least, budget);
         let next = turn.flipper;
         if turn.is_spent {
             return closing(Choice::Refused(Refusal::BudgetExhausted), next);
         }
-        if drawn_last(least, most) {
+        if drawn_last(least, upper, consumed) {
             return closing(item_at(items, turn.place), next);
         }
-        flipper = next;
         held = turn.place;
-        consumed += turn_length(least);
+        let passed = consumed + turn_length(least);
+        let ahead = skip_noes(next, passed, items.len(), lower.len());
+        flipper = ahead.flipper;
+        consumed = ahead.place;
     }
     closing(item_at(items, held), flipper)
 }

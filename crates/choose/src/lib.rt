@@ -9,6 +9,7 @@ use by_hints::choose_by_hints;
 use by_hints::choose_exact;
 use coin_flipper::CoinFlipper;
 use hints::hints_hold;
+use hints::no_groups;
 use refusal::Outcome;
 use refusal::Refusal;
 use xoshiro256plusplus::Xoshiro256PlusPlus;
@@ -88,6 +89,9 @@ pub fn choose(
     }
     if upper[0] == lower[0] {
         return choose_exact(rng, items, budget);
+    }
+    if no_groups(lower) {
+        return choose_by_hints(rng, items, &lower[..0], &upper[..0], budget);
     }
     choose_by_hints(rng, items, lower, upper, budget)
 }

@@ -5,7 +5,7 @@ ghost use Prim.Native.Nat.{ℕ, _+_, _-_, _^_, _<_, _≤_};
 ghost use lib.ListN.{drop, length, getD};
 ghost use Rattle.coin_flipper.specs.State.{Held, seen};
 ghost use Rattle.choose.specs.Choose.{turnOf};
-ghost use Rattle.choose.specs.Turns.{byCoin, byDraw, heldAt, turned};
+ghost use Rattle.choose.specs.Turns.{Skips, byCoin, byDraw, heldAt, turned};
 use coin_flipper::CoinFlipper;
 use coin_flipper::Flip;
 use uniform_int::Draw;
@@ -117,4 +117,44 @@ pub(crate) fn turn_at(
     }
     let n = (at + 1) as u32;
     by_coin(flipper, held, at, n, budget)
+}
+
+// The next place, and the coins.
+pub(crate) struct Ahead {
+    pub place: usize,
+    pub flipper: CoinFlipper,
+}
+
+// With no hints, and from the 256th item on: passes over the items from place `at` on whose questions the coins at hand answer with no, if the row
+// has as many. What is held stays.
+pub(crate) fn skip_noes(flipper: CoinFlipper, at: usize, count: usize, hints: usize) -> Ahead
+    requires { ⌜ (Held (flipper .words) flipper) × (at ≤ count) ⌝ }
+    ensures { λ r. ⌜ Skips at count hints flipper r ⌝ }
+{
+    if hints > 0 {
+        return Ahead {
+            place: at,
+            flipper: flipper,
+        };
+    }
+    if at < 255 {
+        return Ahead {
+            place: at,
+            flipper: flipper,
+        };
+    }
+    let noes = flipper.noes();
+    let many = noes.count as usize;
+    if many > count - at {
+        return Ahead {
+            place: at,
+            flipper: flipper,
+        };
+    }
+    let after = noes.flipper;
+    let place = at + many;
+    Ahead {
+        place: place,
+        flipper: after,
+    }
 }

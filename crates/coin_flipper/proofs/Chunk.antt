@@ -25,7 +25,7 @@ unfolding coinsOf
 length-coinsOf zero x = refl
 length-coinsOf (suc n) x = ap suc (length-coinsOf n (x * 2 % 2 ^ 32))
 
-double : (x z : ℕ) → x * 2 ^ suc z ≡ x * 2 * 2 ^ z
+pub double : (x z : ℕ) → x * 2 ^ suc z ≡ x * 2 * 2 ^ z
 double x z = rw (pow-suc 2 z, mul-comm (2 ^ z) 2) (sym (mul-assoc x 2 (2 ^ z)))
 
 -- z zeros at the top
@@ -54,7 +54,7 @@ kept-low x r s u h low =
     ∙ mul-mod-left (x / 2 ^ (32 - r)) (2 ^ ((32 - r) + s))
 
 module _ (x : ℕ) (fits : x < 2 ^ 32) where
-  above : x * 2 ^ leadingZeros 32 x < 2 ^ 32
+  pub above : x * 2 ^ leadingZeros 32 x < 2 ^ 32
   above =
       let l = leading-length 32 x fits in
       subst (λ (n : ℕ). x * 2 ^ leadingZeros 32 x < 2 ^ n) (add-comm (l .0) (leadingZeros 32 x) ∙ l .1) (shl-lt (l .0) (leadingZeros 32 x) (l .2))
@@ -62,10 +62,10 @@ module _ (x : ℕ) (fits : x < 2 ^ 32) where
   above-of : (s : ℕ) → s ≤ leadingZeros 32 x → x * 2 ^ s < 2 ^ 32
   above-of s h = let m : x * 2 ^ s ≤ x * 2 ^ leadingZeros 32 x = mul-le-mul-left x (pow-mono h) in omega (arith, above)
 
-  some : leadingZeros 32 x < 32 → zero < x
+  pub some : leadingZeros 32 x < 32 → zero < x
   some h = ⊎-elim (λ e. absurd (omega (arith, ap (leadingZeros 32) e, leading-of-zero 32))) (λ p. p) (eq-zero-or-pos x)
 
-  top : leadingZeros 32 x < 32 → 2 ^ 31 ≤ x * 2 ^ leadingZeros 32 x
+  pub top : leadingZeros 32 x < 32 → 2 ^ 31 ≤ x * 2 ^ leadingZeros 32 x
   top h =
       let t = leading-top 32 x (some h) fits in
       let e : t .0 + leadingZeros 32 x ≡ 31 = omega (arith, t .1) in

@@ -141,6 +141,12 @@ pub chunk-bound-2 : ChunkBound 2 479001600 11
 unfolding factors moreOf moreFrom
 chunk-bound-2 = record { factors-of = refl; number = refl; within = lit≤ tt; no-more = lit< tt }
 
+-- from 65,536 on a second factor does not fit
+pub single-bound : (m : ℕ) → 65536 ≤ m → m ≤ 2 ^ 32 - 1 → ChunkBound m m 1
+single-bound m far fits =
+    let wide : 65536 * (m + 1) ≤ m * (m + 1) = mul-le-mul-right (m + 1) far in
+    chunk-bound m (omega arith) fits m 1 (sym (factors-one m)) fits (omega arith)
+
 -- ---- how many factors there are
 
 -- 13 of them from 1 on do not fit

@@ -134,7 +134,7 @@ unfolding coming chunks handed chunkBounds
 coming-none budget s = rw draws-nil
 
 -- what is left of an empty chunk is not used
-handed-empty : (i w a b : ℕ) (cs : List ℕ) → handed moreOf i w 0 a cs ≡ handed moreOf i w 0 b cs
+pub handed-empty : (i w a b : ℕ) (cs : List ℕ) → handed moreOf i w 0 a cs ≡ handed moreOf i w 0 b cs
 unfolding handed
 handed-empty i zero a b cs = refl
 handed-empty i (suc w) a b [] = refl

@@ -10,13 +10,13 @@ use uniform_int::random_range_wide;
 use xoshiro256plusplus::Xoshiro256PlusPlus;
 
 // The bound of a chunk, and the number of its factors.
-struct Bound {
+pub struct Bound {
     pub bound: u32,
     pub count: u32,
 }
 
 // The bound m * (m + 1) * .. with as many factors as stay within 2^32 - 1, and their number: at most 12.
-fn calculate_bound_u32(m: u32) -> Bound
+pub fn calculate_bound_u32(m: u32) -> Bound
     requires { ⌜ (0 < m) × (m < 2 ^ 32 - 1) ⌝ }
     ensures { λ b. ⌜ ChunkBound m (b .bound) (b .count) ⌝ }
 {

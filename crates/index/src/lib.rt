@@ -65,8 +65,8 @@ fn found(f: FoundIndices) -> IndexSample
 // index, so its count is 0; `scratch` holds all indices below `length` as the finished exchanges have arranged them. An amount of 0 needs no word.
 // Any other refusal reads no word and changes nothing: 12 for an all-zero generator, 10 for a length above 2^32 - 1, 1 for an amount above
 // the length, 8 for fewer entries of `indices` than the amount, 9 for a scratch slice that is too short, the first of these that applies.
-// Cost: amount^2 for Floyd (amounts to 162), the length in place, the amount for rejection to some
-// 10,000, and amount^2 above. A call holds some 40 KiB of stack.
+// Cost: amount^2 for Floyd (amounts to 162), the length in place, the amount for rejection to some 1,000,000; above, amount^2 / 65,536 is added.
+// Rejection holds 4 KiB of stack for amounts to 1,000, 64 KiB to 20,000 and 640 KiB above; the other methods hold less than 1 KiB.
 pub fn sample(
     rng: Xoshiro256PlusPlus,
     length: u64,

@@ -12,12 +12,12 @@ use lib.Seq.{length-take-le, take-suc-set, drop-set-lt, drop-drop}
 use Rattle.counting.specs.Lists.{member}
 use Rattle.xoshiro256plusplus.specs.Generator.{word, advance}
 use Rattle.xoshiro256plusplus.specs.declared.Xoshiro256PlusPlus.{Xoshiro256PlusPlus}
-use Rattle.uniform_int.specs.Rejecting.{Drawing, found, spent, answerOf, shown, accepts, scaled, rejectingAt}
+use Rattle.uniform_int.specs.Rejecting.{Drawing, found, answerOf, shown, accepts, scaled, rejectingAt}
 use Rattle.uniform_int.specs.declared.Draw.{Draw}
 use Rattle.uniform_int.specs.declared.Draw.the-variants.{Value, Spent}
 use Rattle.uniform_int.specs.declared.Sampled.{Sampled}
 use Rattle.uniform_int.proofs.Laws.{rejecting-most, rejecting-more}
-use Rattle.index_methods.specs.Rejection.{Found, foundFrom, foundOf}
+use Rattle.index_methods.specs.Rejection.{Found, foundFrom}
 use Rattle.index_methods.specs.Methods.{RejectionSample}
 
 -- the rejecting draw below r, as the loop makes it
@@ -63,28 +63,28 @@ module _ (r w : ℕ) (held : List ℕ) where
       go false ih = let e : n + suc k ≡ suc n + k = omega arith in rw e at ih
 
 -- with `words` read and `count` indices found: what is left to do gives the whole
-pub record Turn (r amount budget : ℕ) (g₀ : Xoshiro256PlusPlus) (l₀ : List ℕ) (g : Xoshiro256PlusPlus) (l : List ℕ) (words count : ℕ) : Type 0 where
+pub record Turn (r amount budget : ℕ) (whole : Found) (l₀ : List ℕ) (g : Xoshiro256PlusPlus) (l : List ℕ) (words count : ℕ) : Type 0 where
   pub upto : count ≤ amount
   pub few : words ≤ budget
   pub long : length l ≡ length l₀
-  pub goes : foundFrom r (take count l) (amount - count) (budget - words) g words ≡ foundOf r amount budget g₀
+  pub goes : foundFrom r (take count l) (amount - count) (budget - words) g words ≡ whole
   pub rest : drop count l ≡ drop count l₀
 
-module _ (r amount budget : ℕ) (g₀ : Xoshiro256PlusPlus) (l₀ : List ℕ) (room : amount ≤ length l₀) where
-  pub begin : Turn r amount budget g₀ l₀ g₀ l₀ 0 0
-  unfolding foundOf
-  begin = record { upto = omega arith; few = omega arith; long = refl; goes = rw (sub-zero amount, sub-zero budget); rest = refl }
+module _ (r amount budget : ℕ) (whole : Found) (l₀ : List ℕ) (room : amount ≤ length l₀) where
+  -- nothing is found yet
+  pub begin : (words : ℕ) (g : Xoshiro256PlusPlus) → words ≤ budget → foundFrom r [] amount (budget - words) g words ≡ whole → Turn r amount budget whole l₀ g l₀ words 0
+  begin words g h e = record { upto = omega arith; few = h; long = refl; goes = rw (sub-zero amount) e; rest = refl }
 
-  module _ (g : Xoshiro256PlusPlus) (l : List ℕ) (words count : ℕ) (s : Turn r amount budget g₀ l₀ g l words count) where
+  module _ (g : Xoshiro256PlusPlus) (l : List ℕ) (words count : ℕ) (s : Turn r amount budget whole l₀ g l words count) where
     -- what was found stands at the front, and the rest of the slice as it was
-    report : (b : Bool) (k : ℕ) (h : Xoshiro256PlusPlus) → foundOf r amount budget g₀ ≡ record { indices = take count l; all = b; words = k; rng = h }
-        → RejectionSample (foundOf r amount budget g₀) l₀ l (record { count = count; all = b; words = k; rng = h })
+    report : (b : Bool) (k : ℕ) (h : Xoshiro256PlusPlus) → whole ≡ record { indices = take count l; all = b; words = k; rng = h }
+        → RejectionSample (whole) l₀ l (record { count = count; all = b; words = k; rng = h })
     report b k h e =
         let size : length (take count l) ≡ count = length-take-le count l (omega (arith, s .upto, s .long)) in
-        let whole : take count l ++ drop count l₀ ≡ l = ap (λ (x : List ℕ). take count l ++ x) (sym (s .rest)) ∙ take-append-drop count l in
-        rw e (record { indices = rw size (sym whole); count = sym size; all = refl; words = refl; rng = refl })
+        let all : take count l ++ drop count l₀ ≡ l = ap (λ (x : List ℕ). take count l ++ x) (sym (s .rest)) ∙ take-append-drop count l in
+        rw e (record { indices = rw size (sym all); count = sym size; all = refl; words = refl; rng = refl })
 
-    pub finish : amount ≤ count → RejectionSample (foundOf r amount budget g₀) l₀ l (record { count = count; all = true; words = words; rng = g })
+    pub finish : amount ≤ count → RejectionSample (whole) l₀ l (record { count = count; all = true; words = words; rng = g })
     unfolding foundFrom
     finish h = let z : amount - count ≡ 0 = omega arith in report true words g (sym (s .goes) ∙ rw z)
 
@@ -92,7 +92,7 @@ module _ (r amount budget : ℕ) (g₀ : Xoshiro256PlusPlus) (l₀ : List ℕ) (
       abbrev d : Drawing
       d = draw r (budget - words) g words
 
-      drawn : foundOf r amount budget g₀ ≡ follows r (amount - (count + 1)) (take count l) budget (d .answer .values) (d .words) (d .rng)
+      drawn : whole ≡ follows r (amount - (count + 1)) (take count l) budget (d .answer .values) (d .words) (d .rng)
       drawn =
           let m : amount - count ≡ suc (amount - (count + 1)) = omega arith in
           let n : budget - words + words ≡ budget = omega (arith, s .few) in
@@ -107,19 +107,19 @@ module _ (r amount budget : ℕ) (g₀ : Xoshiro256PlusPlus) (l₀ : List ℕ) (
       at-least : (v : ℕ) → d .answer .values ≡ v ∷ [] → words < d .words
       at-least v q = rejecting-more (2 ^ 32) word r (2 ^ 32 % r) (budget - words) g words v q
 
-      stop : d .answer .values ≡ [] → RejectionSample (foundOf r amount budget g₀) l₀ l (record { count = count; all = false; words = d .words; rng = d .rng })
+      stop : d .answer .values ≡ [] → RejectionSample (whole) l₀ l (record { count = count; all = false; words = d .words; rng = d .rng })
       stop q = report false (d .words) (d .rng) (drawn ∙ rw q)
 
-      taken : (v : ℕ) → d .answer .values ≡ v ∷ [] → foundOf r amount budget g₀ ≡ follows r (amount - (count + 1)) (take count l) budget (v ∷ []) (d .words) (d .rng)
+      taken : (v : ℕ) → d .answer .values ≡ v ∷ [] → whole ≡ follows r (amount - (count + 1)) (take count l) budget (v ∷ []) (d .words) (d .rng)
       taken v q = drawn ∙ ap (λ (vs : List ℕ). follows r (amount - (count + 1)) (take count l) budget vs (d .words) (d .rng)) q
 
-      drop-draw : (v : ℕ) → d .answer .values ≡ v ∷ [] → member v (take count l) ≡ true → Turn r amount budget g₀ l₀ (d .rng) l (d .words) count
+      drop-draw : (v : ℕ) → d .answer .values ≡ v ∷ [] → member v (take count l) ≡ true → Turn r amount budget whole l₀ (d .rng) l (d .words) count
       drop-draw v q c =
           let m : amount - count ≡ suc (amount - (count + 1)) = omega arith in
           record { upto = s .upto; few = at-most; long = s .long; goes = sym (taken v q ∙ follows-by r (amount - (count + 1)) (take count l) budget v (d .words) (d .rng) true c ∙ rw m); rest = s .rest }
 
       keep-draw : (v : ℕ) → d .answer .values ≡ v ∷ [] → member v (take count l) ≡ false
-          → Turn r amount budget g₀ l₀ (d .rng) (set l count v) (d .words) (count + 1)
+          → Turn r amount budget whole l₀ (d .rng) (set l count v) (d .words) (count + 1)
       keep-draw v q c =
           let here : take (count + 1) (set l count v) ≡ take count l ++ (v ∷ []) = rw (add-one count) (take-suc-set l count v (omega (arith, s .long))) in
           record {
@@ -144,12 +144,12 @@ module _ (r amount budget : ℕ) (g₀ : Xoshiro256PlusPlus) (l₀ : List ℕ) (
         pub words-fall : (v : ℕ) → t .draw ≡ Value v → (words < t .words) × (t .words ≤ budget)
         words-fall v q = rw read (at-least v (values v q), at-most)
 
-        pub spent-turn : t .draw ≡ Spent → RejectionSample (foundOf r amount budget g₀) l₀ l (record { count = count; all = false; words = t .words; rng = t .rng })
+        pub spent-turn : t .draw ≡ Spent → RejectionSample (whole) l₀ l (record { count = count; all = false; words = t .words; rng = t .rng })
         spent-turn q = rw (read, after) (stop (ap (λ (x : Drawing). x .answer .values) (sym e) ∙ ap (λ (x : Draw). answerOf x .values) q))
 
-        pub dropped-turn : (v : ℕ) → t .draw ≡ Value v → member v (take count l) ≡ true → Turn r amount budget g₀ l₀ (t .rng) l (t .words) count
+        pub dropped-turn : (v : ℕ) → t .draw ≡ Value v → member v (take count l) ≡ true → Turn r amount budget whole l₀ (t .rng) l (t .words) count
         dropped-turn v q c = rw (read, after) (drop-draw v (values v q) c)
 
         pub kept-turn : (v : ℕ) → t .draw ≡ Value v → member v (take count l) ≡ false
-            → Turn r amount budget g₀ l₀ (t .rng) (set l count v) (t .words) (count + 1)
+            → Turn r amount budget whole l₀ (t .rng) (set l count v) (t .words) (count + 1)
         kept-turn v q c = rw (read, after) (keep-draw v (values v q) c)

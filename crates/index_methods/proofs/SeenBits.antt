@@ -1,6 +1,6 @@
 -- The search of the indices found, and the filter before it.
 -- Assumes nothing.
-use mathlib.Core.Path.{_≡_, refl, sym, ap, ap₂, _∙_, subst}
+use mathlib.Core.Path.{_≡_, refl, sym, ap, _∙_}
 use mathlib.Core.Bool.{Bool, true, false, not, _||_, false≢true}
 use mathlib.Core.List.{List, [], _∷_, _++_}
 use mathlib.Core.Logic.{_⊎_, inl, inr}
@@ -9,13 +9,13 @@ use native.Mathlib.Nat.{le-of-suc-le-suc, not-suc-le-zero, one-mul, mod-lt, mod-
 use native.Mathlib.Omega.{arith}
 use lib.Bits.{bitOr, bitAnd, or-comm, or-shr, or-mod, and-le-r}
 use lib.Dec.{eqb}
-use lib.ListN.{length, take, drop, getD, set, length-set}
+use lib.ListN.{length, drop, getD, set, length-set}
 use lib.Pow.{pow-pos, pow-lt}
 use lib.Seq.{getD-set-same, getD-set-other}
-use borrow.Author.Tests.{eq-eqb, ne-eqb, eqb-true, eqb-false}
+use borrow.Author.Tests.{eq-eqb, eqb-true, eqb-false}
 use Rattle.counting.specs.Lists.{member}
 use Rattle.counting.proofs.Tests.{is-false}
-use Rattle.index_methods.specs.Seen.{bitAt, Marking, Marked, AllMarked, Sighting, Asked}
+use Rattle.index_methods.specs.Seen.{spread, bitAt, Marking, Marked, AllMarked, Sighting, Asked}
 
 -- ---- the search
 
@@ -118,12 +118,20 @@ seen l (x ∷ vs) v m e = go (eqb v x) refl (seen l vs v (m .1))
     go true f ih = rw (eqb-true v x f) (m .0)
     go false f ih = ih (rw f at e)
 
+-- an index with a bit that is not set is none of those seen
+pub unseen : (l vs : List ℕ) (v : ℕ) → AllMarked l vs → (bitAt l (bitAnd v (length l * 64 - 1)) ≡ false) ⊎ (bitAt l (bitAnd (v * spread / 2 ^ 10) (length l * 64 - 1)) ≡ false) → member v vs ≡ false
+unseen l vs v m e = is-false (member v vs) (λ t. not-both (seen l vs v m t) e)
+  where
+    not-both : Marked l v → (bitAt l (bitAnd v (length l * 64 - 1)) ≡ false) ⊎ (bitAt l (bitAnd (v * spread / 2 ^ 10) (length l * 64 - 1)) ≡ false) → ⊥
+    not-both k (inl f) = false≢true (sym f ∙ k .first)
+    not-both k (inr f) = false≢true (sym f ∙ k .second)
+
 -- both bits of v marked, the first in l and the second in what that leaves
-pub sighted : (v : ℕ) (l l₁ l₂ : List ℕ) (a b r : Bool) → Marking (bitAnd v (length l * 64 - 1)) l l₁ a → Marking (bitAnd (v / 2 ^ 13) (length l * 64 - 1)) l₁ l₂ b
+pub sighted : (v : ℕ) (l l₁ l₂ : List ℕ) (a b r : Bool) → Marking (bitAnd v (length l * 64 - 1)) l l₁ a → Marking (bitAnd (v * spread / 2 ^ 10) (length l * 64 - 1)) l₁ l₂ b
     → (r ≡ false → (a ≡ false) ⊎ (b ≡ false)) → Sighting v l l₂ r
 sighted v l l₁ l₂ a b r one two g =
     record {
-      new = λ vs m e. is-false (member v vs) (λ t. unseen (seen l vs v m t) (g e));
+      new = λ vs m e. is-false (member v vs) (λ t. not-both (seen l vs v m t) (g e));
       marked = record { first = rw long (two .keeps _ (one .sets)); second = rw long (two .sets) };
       keeps = λ q e. two .keeps q (one .keeps q e);
       long = long;
@@ -132,9 +140,9 @@ sighted v l l₁ l₂ a b r one two g =
     long : length l₂ ≡ length l
     long = two .long ∙ one .long
 
-    unseen : Marked l v → (a ≡ false) ⊎ (b ≡ false) → ⊥
-    unseen m (inl e) = false≢true (sym e ∙ one .answer ∙ m .first)
-    unseen m (inr e) = false≢true (sym e ∙ two .answer ∙ one .keeps _ (m .second))
+    not-both : Marked l v → (a ≡ false) ⊎ (b ≡ false) → ⊥
+    not-both m (inl e) = false≢true (sym e ∙ one .answer ∙ m .first)
+    not-both m (inr e) = false≢true (sym e ∙ two .answer ∙ one .keeps _ (m .second))
 
 -- an index more among those that the filter has seen
 pub seen-too : (v : ℕ) (l l′ vs : List ℕ) (r : Bool) → Sighting v l l′ r → Asked l vs → Asked l′ (v ∷ vs)

@@ -19,10 +19,14 @@ pub record Marking (p : ℕ) (l l′ : List ℕ) (was : Bool) : Type 0 where
   pub keeps : (q : ℕ) → bitAt l q ≡ true → bitAt l′ q ≡ true
   pub long : length l′ ≡ length l
 
+-- what the second place of an index is made by: an odd number near 2^32 times the golden ratio's part behind the point
+abbrev pub spread : ℕ
+spread = 2654435761
+
 -- both bits of an index are set
 pub record Marked (l : List ℕ) (v : ℕ) : Type 0 where
   pub first : bitAt l (bitAnd v (length l * 64 - 1)) ≡ true
-  pub second : bitAt l (bitAnd (v / 2 ^ 13) (length l * 64 - 1)) ≡ true
+  pub second : bitAt l (bitAnd (v * spread / 2 ^ 10) (length l * 64 - 1)) ≡ true
 
 -- those of every index
 abbrev pub AllMarked : List ℕ → List ℕ → Type 0
@@ -39,5 +43,5 @@ pub record Sighting (v : ℕ) (l l′ : List ℕ) (was : Bool) : Type 0 where
 -- a filter of a size that it can have, which has seen the indices
 pub record Asked (l vs : List ℕ) : Type 0 where
   pub some : 0 < length l
-  pub few : length l ≤ 8192
+  pub few : length l ≤ 65536
   pub all : AllMarked l vs

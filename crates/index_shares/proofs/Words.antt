@@ -5,13 +5,11 @@ use mathlib.Core.Bool.{Bool, true, false}
 use mathlib.Core.List.{List, [], _∷_, _++_}
 use mathlib.Core.Option.{Option, none, some}
 use Prim.Native.Nat.{ℕ, zero, suc, _%_, _^_, _<_}
-use lib.Pow.{pow-pos}
 use Rattle.counting.specs.Lists.{member, Below}
 use Rattle.xoshiro256plusplus.specs.Generator.{word, advance}
 use Rattle.xoshiro256plusplus.specs.declared.Xoshiro256PlusPlus.{Xoshiro256PlusPlus}
-use Rattle.xoshiro256plusplus.proofs.Laws.{word-lt}
 use Rattle.uniform_int.specs.Rejecting.{accepts, scaled}
-use Rattle.uniform_int.proofs.Scaling.{upper-lt}
+use Rattle.index_methods.proofs.FoundHolds.{value-below}
 use Rattle.index_methods.specs.Rejection.{Found, rejectFrom, rejectionOf, foundFrom, foundOf, acceptedOf}
 
 -- the sample that the found indices are, if they are all
@@ -56,10 +54,6 @@ unfolding rejectionOf foundOf
 words-lack n amount budget g e = rw e at (accepted-draws n amount budget [] g 0)
 
 -- ---- the values of words
-
-pub value-below : (r : ℕ) (g : Xoshiro256PlusPlus) → 0 < r → scaled (2 ^ 32) r (word g) < r
-unfolding scaled
-value-below r g h = upper-lt (2 ^ 32) r (word g) (pow-pos 32) h (word-lt g)
 
 -- accepted words have values below r
 pub accepted-below : (r n : ℕ) (g : Xoshiro256PlusPlus) → 0 < r → Below r (acceptedOf r n g)

@@ -4,7 +4,7 @@ use mathlib.Core.Path.{_≡_, sym, ap, subst, _∙_}
 use mathlib.Core.Bool.{true, false}
 use mathlib.Core.List.{List, [], _∷_}
 use mathlib.Core.Option.{Option, none, some}
-use Prim.Native.Nat.{ℕ, _-_}
+use Prim.Native.Nat.{ℕ, _-_, _≤_, _<_}
 use native.Mathlib.Omega.{arith}
 use lib.Dec.{eqb}
 use lib.ListN.{length, take, getD}
@@ -15,10 +15,12 @@ use Rattle.refusal.specs.Number as refusal
 use Rattle.refusal.specs.declared.Refusal.{Refusal}
 use Rattle.refusal.proofs.Outcomes.{refused-number}
 use Rattle.xoshiro256plusplus.specs.declared.Xoshiro256PlusPlus.{Xoshiro256PlusPlus}
-use Rattle.weighted_index.specs.Answers.{Making, ended, replied}
+use Rattle.weighted_index.specs.Answers as table
+use Rattle.weighted_index.specs.Answers.{Making, ended}
 use Rattle.weighted_index.specs.Lookup.{weightOf}
-use Rattle.weighted_index.specs.declared.answer.Lookup.{Lookup}
-use Rattle.weighted_index.specs.declared.answer.Looked.the-variants as looked
+use Rattle.weighted_index.specs.Tables.{brokenTable, heldWeights}
+use Rattle.weighted_index.specs.Weights.{mostWeights}
+use Rattle.weighted_index.proofs.LookupCases.{beyond, inside}
 use Rattle.weighted_index.specs.declared.answer.Made.the-variants as made
 use Rattle.weighted_index.specs.declared.answer.Outcome.{Outcome}
 use Rattle.weighted_index.specs.declared.answer.WeightedIndex.{WeightedIndex}
@@ -74,22 +76,18 @@ module _ (sums : List ℕ) (digest : ℕ) (d : digest ≡ digestFrom 0 sums) (g 
       no-picks-told z e =
           tell number words digest 0 (p .rng) slice (pickFrom n budget g (ended o sums)) r e (omega arith) (none-picked budget p slice (picksOf n g t sums budget) end number words no w z ∙ from n budget)
 
-    module _ (place : ℕ) (l : Lookup) (call : replied l ≡ weightOf t sums place) (f : Few) where
-      looks : weightTold g sums (replied l) ≡ lookFrom place g (ended o sums)
+    module _ (place : ℕ) (few : t .count ≤ mostWeights) (whole : brokenTable t sums ≡ false) (f : Few) where
+      looks : (r : table.Reply) → weightOf t sums place ≡ r → weightTold g sums r ≡ lookFrom place g (ended o sums)
       unfolding lookFrom
-      looks = ap (weightTold g sums) call ∙ rw a
+      looks r e = ap (weightTold g sums) (sym e) ∙ rw a
 
-      pub weight-told : (x : ℕ) → l .answer ≡ looked.Weight x → Gives f (some (gave 0 (l .words) digest g (x ∷ []))) → Gives f (some (lookFrom place g (ended o sums)))
+      pub weight-told : (x : ℕ) → place < t .count → x ≡ getD (heldWeights t sums) place 0 → Gives f (some (gave 0 0 digest g (x ∷ []))) → Gives f (some (lookFrom place g (ended o sums)))
       unfolding weightTold
-      weight-told x e = gives f _ _ (ap (λ (u : Told). some u) (rw d (rw e at looks)))
+      weight-told x l e = gives f _ _ (ap (λ (u : Told). some u) (rw (d, e) (looks _ (inside t sums place few whole l))))
 
-      pub nothing-told : l .answer ≡ looked.Nothing → Gives f (some (gave 0 (l .words) digest g [])) → Gives f (some (lookFrom place g (ended o sums)))
+      pub nothing-told : t .count ≤ place → Gives f (some (gave 0 0 digest g [])) → Gives f (some (lookFrom place g (ended o sums)))
       unfolding weightTold
-      nothing-told e = gives f _ _ (ap (λ (u : Told). some u) (rw d (rw e at looks)))
-
-      pub refusal-told : (why : Refusal) (number : ℕ) → number ≡ refusal.number why → l .answer ≡ looked.Refused why → Gives f (some (gave number (l .words) digest g [])) → Gives f (some (lookFrom place g (ended o sums)))
-      unfolding weightTold
-      refusal-told why number n e = gives f _ _ (ap (λ (u : Told). some u) (rw (d, n) (rw e at looks)))
+      nothing-told l = gives f _ _ (ap (λ (u : Told). some u) (rw d (looks _ (beyond t sums place few whole l))))
 
   -- ---- a refusal that made none
 

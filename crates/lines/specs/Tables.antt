@@ -1,13 +1,15 @@
 -- The table of weights of a line: made, then changed.
-use mathlib.Core.Bool.{cond}
+use mathlib.Core.Path.{_≡_}
+use mathlib.Core.Bool.{false, cond}
 use mathlib.Core.List.{List, []}
-use Prim.Native.Nat.{ℕ, _-_}
+use Prim.Native.Nat.{ℕ, _-_, _≤_}
 use lib.Dec.{eqb}
 use Rattle.xoshiro256plusplus.specs.declared.Xoshiro256PlusPlus.{Xoshiro256PlusPlus}
 use Rattle.weighted_index.specs.Answers.{Making, Reply, recordIn}
 use Rattle.weighted_index.specs.New.{newOf}
 use Rattle.weighted_index.specs.Lookup.{weightOf}
-use Rattle.weighted_index.specs.declared.answer.WeightedIndex.{WeightedIndex}
+use Rattle.weighted_index.specs.Tables.{brokenTable}
+use Rattle.weighted_index.specs.Weights.{mostWeights}
 use Rattle.update_weights.specs.Change.{updateOf}
 use Rattle.lines.specs.Slices.{blank, digestFrom}
 use Rattle.lines.specs.Picks.{Picking, picksOf}
@@ -20,6 +22,11 @@ changed m ps vs = cond (eqb (m .answer .number) 0) (updateOf (recordIn (m .answe
 -- the table of the weights ws, in so many entries, with the weights vs at the places ps
 unfoldable pub tableOf : (ws ps vs : List ℕ) (sums : ℕ) → Making
 tableOf ws ps vs sums = changed (newOf ws (blank sums)) ps vs
+
+-- if a table was made it is whole, and has no more weights than it may
+pub record WholeIfMade (m : Making) : Type 0 where
+  pub few : m .answer .number ≡ 0 → recordIn (m .answer .values) .count ≤ mostWeights
+  pub whole : m .answer .number ≡ 0 → brokenTable (recordIn (m .answer .values)) (m .sums) ≡ false
 
 -- ---- what is told of it, with the digest of its sums
 

@@ -1,19 +1,23 @@
 // Tables of weights: the weights of a line make one, a change follows, and then picks or a lookup.
 ghost use mathlib.Core.Path.{_≡_};
+ghost use mathlib.Core.Bool.{false};
 ghost use Prim.Native.Nat.{_-_, _+_, _≤_, _<_};
 ghost use lib.ListN.{length, getD};
 ghost use Rattle.lines.specs.Picks.{Ended, picksOf};
 ghost use mathlib.Core.Option.{some};
+ghost use Rattle.pick.specs.Answers as drawn;
+ghost use Rattle.pick.specs.Pick.{pickOf};
 ghost use Rattle.weighted_index.specs.Answers.{ended};
+ghost use Rattle.weighted_index.specs.Tables.{brokenTable};
+ghost use Rattle.weighted_index.specs.Weights.{mostWeights};
 ghost use Rattle.lines.specs.Means.{pickMeans, weightMeans};
 ghost use Rattle.lines.specs.Sizes.{entries};
-ghost use Rattle.lines.specs.Tables.{tableOf, pickFrom, lookFrom};
+ghost use Rattle.lines.specs.Tables.{tableOf, WholeIfMade, pickFrom, lookFrom};
 ghost use Rattle.lines.specs.Told.{Tells, Gives};
 use super::reply;
 use super::reply::Few;
 use super::reply::Reply;
 use super::slices;
-use weighted_index::answer::Looked;
 use weighted_index::answer::Made;
 use weighted_index::answer::Outcome;
 use weighted_index::answer::WeightedIndex;
@@ -36,8 +40,28 @@ pub(crate) fn after(left: u64, words: u64) -> u64
     left - words
 }
 
-// Fills the slice with picks, one generator through all of them: the definition `picksOf`. Each has of the budget what those before it left,
-// and a refusal ends them.
+// A pick from a table that is known to be whole, which is not looked through again: the definition `pickOf`.
+fn pick_whole(
+    rng: Xoshiro256PlusPlus,
+    table: WeightedIndex,
+    sums: &[u32],
+    budget: u64,
+) -> pick::Picked
+    requires { ⌜ (table .count ≤ mostWeights) × (brokenTable table (now sums) ≡ false) ⌝ }
+    ensures { λ r. ⌜ drawn.picked r ≡ pickOf rng table (now (sums .entry)) budget ⌝ }
+{
+    if rng.is_zero() {
+        return pick::Picked {
+            answer: pick::Choice::Refused(refusal::Refusal::ZeroState),
+            words: 0,
+            rng: rng,
+        };
+    }
+    pick::sample_whole(rng, table, sums, budget)
+}
+
+// Fills the slice with picks from a whole table, one generator through all of them: the definition `picksOf`. Each has of the budget what those before
+// it left, and a refusal ends them.
 pub(crate) fn pick_all(
     rng: Xoshiro256PlusPlus,
     table: WeightedIndex,
@@ -45,12 +69,13 @@ pub(crate) fn pick_all(
     budget: u64,
     picks: &mut [u32],
 ) -> Picks
+    requires { ⌜ (table .count ≤ mostWeights) × (brokenTable table (now sums) ≡ false) ⌝ }
     ensures { λ r. ⌜ Ended r (now (picks .exit)) (picksOf (length (now (picks .entry))) rng table (now (sums .entry)) budget) ⌝ }
 {
     let mut state = rng;
     let mut left = budget;
     for i in 0..picks.len() {
-        let picked = pick::sample(state, table, sums, left);
+        let picked = pick_whole(state, table, sums, left);
         let next = picked.rng;
         state = next;
         left = after(left, picked.words);
@@ -88,7 +113,7 @@ fn table_of(weights: &[u32], places: &[u64], changes: &[u32], sums: &mut [u32]) 
     made
 }
 
-// The picks from a table, or the refusal that made none: the definition `pickFrom`.
+// The picks from a table, which was just made and is whole, or the refusal that made none: the definition `pickFrom`.
 fn picked(
     rng: Xoshiro256PlusPlus,
     made: Outcome,
@@ -96,6 +121,7 @@ fn picked(
     budget: u64,
     picks: &mut [u32],
 ) -> Reply
+    requires { ⌜ WholeIfMade (ended made (now sums)) ⌝ }
     ensures { λ r. ⌜ Tells r (now (picks .exit)) (some (pickFrom (length (now (picks .entry))) budget rng (ended made (now (sums .entry))))) ⌝ }
 {
     let left = slices::digest(0, sums);
@@ -116,21 +142,20 @@ fn picked(
     }
 }
 
-// The weight at a place of a table, or the refusal that made none: the definition `lookFrom`.
+// The weight at a place of a table, which was just made and is whole, or the refusal that made none: the definition `lookFrom`.
 fn looked(rng: Xoshiro256PlusPlus, made: Outcome, sums: &[u32], place: u64) -> Few
+    requires { ⌜ WholeIfMade (ended made (now sums)) ⌝ }
     ensures { λ r. ⌜ Gives r (some (lookFrom place rng (ended made (now (sums .entry))))) ⌝ }
 {
     let left = slices::digest(0, sums);
     let answer = made.answer;
     match answer {
         Made::Table(t) => {
-            let l = weighted_index::table::weight(t, sums, place);
-            let found = l.answer;
-            match found {
-                Looked::Weight(w) => reply::one_value(l.words, rng, left, w),
-                Looked::Nothing => reply::no_value(0, l.words, rng, left),
-                Looked::Refused(why) => reply::no_value(why.number(), l.words, rng, left),
+            if place >= t.count {
+                return reply::no_value(0, 0, rng, left);
             }
+            let w = weighted_index::table::weight_at(t, sums, place);
+            reply::one_value(0, rng, left, w)
         }
         Made::Refused(why) => reply::no_value(why.number(), 0, rng, left),
     }
@@ -145,7 +170,7 @@ fn told(
     sums: &[u32],
     values: &mut [u32],
 ) -> Reply
-    requires { ⌜ (k ≡ 4 → 1 < length (now values)) × (4 ≤ k) × (k < 6) ⌝ }
+    requires { ⌜ (k ≡ 4 → 1 < length (now values)) × (4 ≤ k) × (k < 6) × WholeIfMade (ended made (now sums)) ⌝ }
     ensures { λ r. ⌜ (k ≡ 5 → Tells r (now (values .exit)) (some (pickFrom (length (now (values .entry))) (getD (now (n .entry)) 1 0) rng (ended made (now (sums .entry)))))) × (k ≡ 4 → Tells r (now (values .exit)) (some (lookFrom (getD (now (n .entry)) 0 0) rng (ended made (now (sums .entry)))))) ⌝ }
 {
     if k == 5 {

@@ -1,17 +1,21 @@
 // Shuffles of a slice, as in rand's `slice.rs`.
 ghost use mathlib.Core.List.{List};
 ghost use mathlib.Core.Path.{_≡_};
-ghost use Prim.Native.Nat.{ℕ, _-_, _^_, _≤_};
+ghost use Prim.Native.Nat.{ℕ, suc, _-_, _^_, _≤_, _<_, min, max};
 ghost use lib.ListN.{length};
-ghost use Rattle.slice.specs.Shuffle.{shuffleBounds};
+ghost use Rattle.slice.specs.Shuffle.{shuffleFrom, shuffleBounds};
+ghost use Rattle.increasing_uniform.specs.Chunks.{factors};
+ghost use Rattle.slice.specs.Digits.{digits, remaining, ChunkExchanged};
 ghost use Rattle.slice.specs.Shuffled.{Exchanged, ended, refuses, partialShuffleOf, wholeShuffleOf};
-ghost use Rattle.uniform_int.specs.Draws.{draws};
-use increasing_uniform::IncreasingUniform;
+ghost use Rattle.uniform_int.specs.Draws.{drawsFrom, draws};
+use increasing_uniform::calculate_bound_u32;
 use parts::swap;
 use refusal::Outcome;
 use refusal::Refusal;
 use uniform_int::Draw;
 use uniform_int::Reading;
+use uniform_int::random_range;
+use uniform_int::random_range_wide;
 use xoshiro256plusplus::Xoshiro256PlusPlus;
 
 // The outcome, the place where the shuffled tail starts, the words read, and the generator after them.
@@ -44,36 +48,134 @@ fn tail_start(length: u64, amount: u64) -> u64
     0
 }
 
-// For each place from n to the end, exchanges it with one not above it, drawn evenly. It stops at a draw that the budget leaves unfinished.
-fn shuffle_from(rng: Xoshiro256PlusPlus, items: &mut [u32], n: u64, budget: u64) -> Reading
-    requires { ⌜ (n ≤ length (now items)) × (length (now items) ≤ 2 ^ 32 - 2) ⌝ }
-    ensures { λ r. ⌜ Exchanged n (draws budget (shuffleBounds n (length (now (items .entry)))) rng) (now (items .entry)) (now (items .exit)) r ⌝ }
+// Exchanges each place from `start` to `end` - 1 with the one that the chunk's next digit names, and answers what is left of the chunk.
+fn exchange_digits(items: &mut [u32], start: usize, end: usize, chunk: u32) -> u32
+    requires { ⌜ (start ≤ end) × (end ≤ length (now items)) × (length (now items) ≤ 2 ^ 32 - 2) ⌝ }
+    ensures { λ r. ⌜ (r ≡ remaining start (end - start) chunk) × (now (items .exit) ≡ shuffleFrom start (now (items .entry)) (digits start (end - start) chunk)) ⌝ }
 {
-    let first = n as u32;
-    let mut chooser = IncreasingUniform::new(rng, first);
-    let start = n as usize;
+    let mut rest = chunk;
+    for i in start..end {
+        let m = (i + 1) as u32;
+        let k = rest % m;
+        rest = rest / m;
+        let there = k as usize;
+        swap(items, i, there);
+    }
+    rest
+}
+
+// Makes the exchanges of a chunk that holds `count` indices, or as many as there are places, and answers the place behind them. The last index of a
+// chunk is what is left of it, and takes no division.
+fn exchange_chunk(items: &mut [u32], start: usize, chunk: u32, count: u32) -> usize
+    requires { ⌜ (start < length (now items)) × (length (now items) ≤ 2 ^ 32 - 2) × (0 < count) × (chunk < factors (suc start) count) ⌝ }
+    ensures { λ r. ⌜ ChunkExchanged start chunk count (now (items .entry)) (now (items .exit)) r ⌝ }
+{
+    let size = count as usize;
+    let end = items.len();
+    if size > end - start {
+        exchange_digits(items, start, end, chunk);
+        return end;
+    }
+    let last = start + (size - 1);
+    let k = exchange_digits(items, start, last, chunk);
+    let there = k as usize;
+    swap(items, last, there);
+    last + 1
+}
+
+// The same as `shuffle_from` for places so far on that each needs a chunk of its own: the draw is the index.
+fn shuffle_far(
+    rng: Xoshiro256PlusPlus,
+    items: &mut [u32],
+    start: usize,
+    read: u64,
+    budget: u64,
+) -> Reading
+    requires { ⌜ (65535 ≤ start) × (start ≤ length (now items)) × (length (now items) ≤ 2 ^ 32 - 2) ⌝ }
+    ensures { λ r. ⌜ Exchanged start (drawsFrom budget (shuffleBounds start (length (now (items .entry)))) rng read) (now (items .entry)) (now (items .exit)) r ⌝ }
+{
+    let mut state = rng;
+    let mut words = read;
     let end = items.len();
     for i in start..end {
-        let index = chooser.next_index(budget);
-        let state = index.state;
-        chooser = state;
-        let draw = index.draw;
+        let m = (i + 1) as u32;
+        let drawn = random_range(state, m, words, budget);
+        let after = drawn.rng;
+        state = after;
+        words = drawn.words;
+        let draw = drawn.draw;
         let Draw::Value(k) = draw else {
-            let stopped = chooser.rng;
             return Reading {
                 all: false,
-                words: chooser.words,
-                rng: stopped,
+                words: words,
+                rng: state,
             };
         };
         let there = k as usize;
         swap(items, i, there);
     }
-    let after = chooser.rng;
     Reading {
         all: true,
-        words: chooser.words,
-        rng: after,
+        words: words,
+        rng: state,
+    }
+}
+
+// The first place that is exchanged with another: place 0 is not.
+fn first_place(n: u64) -> usize
+    ensures { λ i. ⌜ i ≡ max n 1 ⌝ }
+{
+    if n == 0 {
+        return 1;
+    }
+    n as usize
+}
+
+// Where the places end whose chunks may have several factors.
+fn near_end(end: usize) -> usize
+    ensures { λ r. ⌜ r ≡ min end 65535 ⌝ }
+{
+    if end < 65535 {
+        return end;
+    }
+    65535
+}
+
+// For each place from n to the end, exchanges it with one not above it, drawn evenly. It goes chunk by chunk: the generator is needed between
+// chunks only, and the loop inside a chunk is short. It stops at a draw that the budget leaves unfinished.
+fn shuffle_from(rng: Xoshiro256PlusPlus, items: &mut [u32], n: u64, budget: u64) -> Reading
+    requires { ⌜ (n ≤ length (now items)) × (length (now items) ≤ 2 ^ 32 - 2) ⌝ }
+    ensures { λ r. ⌜ Exchanged n (draws budget (shuffleBounds n (length (now (items .entry)))) rng) (now (items .entry)) (now (items .exit)) r ⌝ }
+{
+    let mut state = rng;
+    let mut words: u64 = 0;
+    let mut i = first_place(n);
+    let end = items.len();
+    let near = near_end(end);
+    while i < near {
+        let m = (i + 1) as u32;
+        let bound = calculate_bound_u32(m);
+        let drawn = random_range_wide(state, bound.bound, words, budget);
+        let after = drawn.rng;
+        state = after;
+        words = drawn.words;
+        let draw = drawn.draw;
+        let Draw::Value(chunk) = draw else {
+            return Reading {
+                all: false,
+                words: words,
+                rng: state,
+            };
+        };
+        i = exchange_chunk(items, i, chunk, bound.count);
+    }
+    if i < end {
+        return shuffle_far(state, items, i, words, budget);
+    }
+    Reading {
+        all: true,
+        words: words,
+        rng: state,
     }
 }
 

@@ -1,9 +1,9 @@
 -- What a sample leaves, however it ends: its count is within bounds, what it has written lies below the length, and the rest is as it was.
 -- Assumes nothing.
 use mathlib.Core.Path.{_≡_, refl, sym, ap, _∙_}
-use mathlib.Core.Bool.{Bool, true, false, cond, false≢true}
+use mathlib.Core.Bool.{Bool, true, false, cond}
 use mathlib.Core.List.{List, [], _∷_, _++_}
-use Prim.Native.Nat.{ℕ, zero, suc, _+_, _-_, _%_, _^_, _≤_, _<_}
+use Prim.Native.Nat.{ℕ, zero, suc, _+_, _-_, _^_, _≤_, _<_}
 use native.Mathlib.Omega.{arith}
 use lib.Dec.{ltb}
 use lib.ListN.{length, take, drop, length-append, length-drop, length-take}
@@ -12,17 +12,16 @@ use borrow.Author.Tests.{ltb-false}
 use Rattle.refusal.specs.Number.{number}
 use Rattle.refusal.specs.declared.Refusal.{Refusal}
 use Rattle.refusal.specs.declared.Refusal.the-variants.{AmountExceedsLength, SliceTooShort, ScratchTooShort, TooLong, ZeroState, BudgetExhausted}
-use Rattle.xoshiro256plusplus.specs.Generator.{word, advance, zeroState}
+use Rattle.xoshiro256plusplus.specs.Generator.{zeroState}
 use Rattle.xoshiro256plusplus.specs.declared.Xoshiro256PlusPlus.{Xoshiro256PlusPlus}
 use Rattle.xoshiro256plusplus.proofs.Laws.{steps-zero}
 use Rattle.counting.specs.Bounds.{rising}
-use Rattle.counting.specs.Lists.{member, swapAt, Below, Within}
+use Rattle.counting.specs.Lists.{swapAt, Below, Within}
 use Rattle.counting.proofs.Many.{length-swap}
 use Rattle.counting.proofs.CountsOfLists.{length-within}
 use Rattle.counting.proofs.Rising.{length-rising}
-use Rattle.counting.proofs.Distinct.{snoc-below, below-mono}
+use Rattle.counting.proofs.Distinct.{below-mono}
 use Rattle.uniform_int.specs.Draws.{Draws, draws}
-use Rattle.uniform_int.specs.Rejecting.{accepts, scaled}
 use Rattle.uniform_int.proofs.InTurn.{draws-read, draws-give}
 use Rattle.crossover.specs.Method.{methodOf}
 use Rattle.crossover.specs.declared.Method.{Method}
@@ -35,7 +34,7 @@ use Rattle.index_methods.proofs.FloydTurns.{length-sample, floyd-positive}
 use Rattle.index_methods.proofs.FoundWords.{found-read}
 use Rattle.index_methods.proofs.InPlaceTurns.{falling-positive}
 use Rattle.index_shares.proofs.Shares.{index-shares}
-use Rattle.index_shares.proofs.Words.{value-below}
+use Rattle.index_methods.proofs.FoundHolds.{found-holds}
 use Rattle.index.specs.Sample.{Sampling, refuses, written, byFloyd, byInPlace, byRejection, byMethod, sampleOf}
 use Rattle.index.proofs.Cases.{positive}
 use Rattle.stratified.specs.Stratified.{countOf, telling}
@@ -141,32 +140,6 @@ unfolding arranged
 length-arranged n ds scratch h =
     omega (arith, length-append (swapsFrom 0 (upTo n) ds) (drop n scratch), length-swaps 0 (upTo n) ds, length-upTo n, length-drop n scratch)
 
--- what rejection holds stays below the length, and is no more than was wanted
-record Holds (r most : ℕ) (f : Found) : Type 0 where
-  below : Below r (f .indices)
-  few : length (f .indices) ≤ most
-  whole : f .all ≡ true → length (f .indices) ≡ most
-
-found-holds : (r w n : ℕ) (held : List ℕ) (g : Xoshiro256PlusPlus) (k : ℕ) → 0 < r → Below r held → Holds r (length held + w) (foundFrom r held w n g k)
-unfolding foundFrom
-found-holds r zero n held g k pos b = record { below = b; few = omega arith; whole = λ e. omega arith }
-found-holds r (suc w) zero held g k pos b = record { below = b; few = omega arith; whole = λ e. absurd (false≢true e) }
-found-holds r (suc w) (suc n) held g k pos b =
-    let v : ℕ = scaled (2 ^ 32) r (word g) in
-    go (accepts (2 ^ 32) r (2 ^ 32 % r) (word g)) (member v held) (found-holds r (suc w) n held (advance g) (suc k) pos b)
-    (let one : length (held ++ (v ∷ [])) + w ≡ length held + suc w = omega (arith, length-append held (v ∷ [])) in
-    rw one at (found-holds r w n (held ++ (v ∷ [])) (advance g) (suc k) pos (snoc-below r held v b (value-below r g pos))))
-  where
-    go : (a m : Bool) → Holds r (length held + suc w) (foundFrom r held (suc w) n (advance g) (suc k))
-        → Holds r (length held + suc w) (foundFrom r (held ++ (scaled (2 ^ 32) r (word g) ∷ [])) w n (advance g) (suc k))
-        → Holds r (length held + suc w) (elim a [
-          | true ↦ elim m [ true ↦ foundFrom r held (suc w) n (advance g) (suc k) | false ↦ foundFrom r (held ++ (scaled (2 ^ 32) r (word g) ∷ [])) w n (advance g) (suc k) ]
-          | false ↦ foundFrom r held (suc w) n (advance g) (suc k)
-        ])
-    go true true again fresh = again
-    go true false again fresh = fresh
-    go false m again fresh = again
-
 -- ---- each end of a sample
 
 module _ (n amount budget : ℕ) (g : Xoshiro256PlusPlus) (indices scratch : List ℕ) where
@@ -193,7 +166,7 @@ module _ (n amount budget : ℕ) (g : Xoshiro256PlusPlus) (indices scratch : Lis
   unfolding byRejection foundOf
   by-rejection pos room =
       let f : Found = foundFrom n [] amount budget g 0 in
-      let held = found-holds n amount budget [] g 0 pos tt in
+      let held = found-holds n amount budget [] g 0 0 pos tt (omega arith) in
       let read = found-read n amount budget [] g 0 g (sym (steps-zero g)) in
       packed n amount budget indices scratch (f .all) (f .indices) (f .words) (f .rng) scratch
       (record { few = omega (arith, held .few); whole = λ a. omega (arith, held .whole a); below = held .below }) room (omega (arith, read .few)) refl

@@ -196,7 +196,7 @@ fn sample_parts(
 // Any other refusal is settled for all parts before a word is read, and changes nothing: 12 for an all-zero generator, 17 for lists that differ in length
 // or parts of more than 2^32 - 1 indices together, 1 for an amount above its part's length, 8 for fewer entries of `indices` than all amounts together, 9
 // for a scratch slice that is shorter than some part due in place, the first of these that applies.
-// Cost: a pass over the parts, and `index::sample` for each. A call holds some 40 KiB of stack.
+// Cost: a pass over the parts, and `index::sample` for each. A call holds the stack of its largest sample.
 pub fn sample_stratified(
     rng: Xoshiro256PlusPlus,
     lengths: &[u64],

@@ -4,7 +4,7 @@ use mathlib.Core.Path.{_≡_, refl, sym, _∙_}
 use mathlib.Core.Bool.{Bool, true, false}
 use mathlib.Core.List.{List, [], _∷_}
 use mathlib.Core.Option.{Option, none, some}
-use Prim.Native.Nat.{ℕ, suc, _≤_, _<_}
+use Prim.Native.Nat.{ℕ, zero, suc, _≤_, _<_}
 use native.Mathlib.Omega.{arith}
 use lib.Dec.{ltb, leb}
 use lib.ListN.{length, getD, set, length-set}
@@ -65,9 +65,10 @@ pub ordered : (count least : ℕ) (ps : List ℕ) → placesRefusal count least 
 ordered count least [] e = tt
 ordered count least (p ∷ ps) e = let d = passed count least p ps e in (d .after, ordered count (suc p) ps (d .others))
 
-pub first-inside : (count least : ℕ) (ps : List ℕ) → placesRefusal count least ps ≡ none → 0 < length ps → getD ps 0 0 < count
-first-inside count least [] e l = absurd (omega arith)
-first-inside count least (p ∷ ps) e l = passed count least p ps e .inside
+pub all-inside : (count least : ℕ) (ps : List ℕ) → placesRefusal count least ps ≡ none → (j : ℕ) → j < length ps → getD ps j 0 < count
+all-inside count least [] e j l = absurd (omega arith)
+all-inside count least (p ∷ ps) e zero l = passed count least p ps e .inside
+all-inside count least (p ∷ ps) e (suc j) l = all-inside count (suc p) ps (passed count least p ps e .others) j (omega arith)
 
 -- ---- the weights that they leave
 

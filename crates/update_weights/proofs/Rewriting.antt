@@ -28,7 +28,7 @@ pub record Ready (all : ℕ) (s₀ ps vs : List ℕ) (last : ℕ) : Type 0 where
   pub fits : total (replaced (weightsFrom 0 (take last s₀) all) ps vs) ≤ mostTotal
   pub rising : rises 0 (take last s₀) all ≡ true
   pub order : Ordered 0 ps
-  pub inside : 0 < length ps → getD ps 0 0 ≤ last
+  pub inside : (j : ℕ) → j < length ps → getD ps j 0 ≤ last
 
 -- i sums are written; `before` is the old sum before the place i, and the first j items are used
 pub record Rewriting (all : ℕ) (s₀ ps vs : List ℕ) (last : ℕ) (s : List ℕ) (before acc j i : ℕ) : Type 0 where
@@ -176,7 +176,7 @@ pub before-none : (s : List ℕ) (k : ℕ) → k ≤ 0 → 0 ≡ sumBefore s k
 before-none s zero h = refl
 before-none s (suc k) h = absurd (omega arith)
 
-from-first : (least : ℕ) (ps : List ℕ) → Ordered least ps → Ordered (getD ps 0 0) ps
+pub from-first : (least : ℕ) (ps : List ℕ) → Ordered least ps → Ordered (getD ps 0 0) ps
 from-first least [] o = tt
 from-first least (p ∷ ps) o = (omega arith, o .1)
 
@@ -214,7 +214,7 @@ module _ (all : ℕ) (s₀ ps vs : List ℕ) (last : ℕ) (d : Ready all s₀ ps
 
   pub begin-at : (before : ℕ) → 0 < length ps → before ≡ sumBefore s₀ (getD ps 0 0) → Rewriting all s₀ ps vs last s₀ before before 0 (getD ps 0 0)
   begin-at before h e =
-      subst (λ (n : ℕ). Rewriting all s₀ ps vs last s₀ n n 0 (getD ps 0 0)) (sym e) (stands (getD ps 0 0) (d .inside h) (from-first 0 ps (d .order)))
+      subst (λ (n : ℕ). Rewriting all s₀ ps vs last s₀ n n 0 (getD ps 0 0)) (sym e) (stands (getD ps 0 0) (d .inside 0 h) (from-first 0 ps (d .order)))
 
   -- with no places all sums stand
   pub unchanged : length ps ≡ 0 → s₀ ≡ heldSums (replaced (weightsFrom 0 (take last s₀) all) ps vs) s₀

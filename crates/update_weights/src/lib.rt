@@ -1,12 +1,13 @@
 // A change of some weights of a table.
 ghost use mathlib.Core.Path.{_≡_};
 ghost use mathlib.Core.Bool.{false};
-ghost use Prim.Native.Nat.{_≤_};
-ghost use lib.ListN.{length};
-ghost use Rattle.weighted_index.specs.Weights.{mostWeights};
+ghost use Prim.Native.Nat.{_+_, _-_, _<_, _≤_};
+ghost use lib.ListN.{length, getD};
+ghost use Rattle.weighted_index.specs.Weights.{mostWeights, mostTotal};
 ghost use Rattle.weighted_index.specs.Tables.{brokenTable, heldWeights, heldSums};
 ghost use Rattle.weighted_index.specs.Answers.{ended};
 ghost use Rattle.update_weights.specs.Change.{replaced, Rewritable, answerOfChecked, checkOf, updateOf};
+ghost use Rattle.update_weights.specs.Raising.{raised, Raisable, placeAfter, putAt, sumAt};
 use refusal::Refusal;
 use weighted_index::answer::MOST_TOTAL;
 use weighted_index::answer::MOST_WEIGHTS;
@@ -54,8 +55,50 @@ fn check_items(
     Checked::Total(running)
 }
 
-// Writes the sums of the changed weights over the old ones, from the first place on. The old weight at i is the old sum there less the one
-// before it, which has been written over: `before` keeps it.
+// Takes `less` from the entries from one place to another and adds `more`: the definition `raised`. No entry depends on another, so that many are
+// done at once.
+fn raise(sums: &mut [u32], from: usize, to: usize, less: u32, more: u32)
+    requires { ⌜ Raisable (now sums) from to less more ⌝ }
+    ensures { λ _. ⌜ now (sums .exit) ≡ raised (to - from) from less more (now (sums .entry)) ⌝ }
+{
+    for i in from..to {
+        sums[i] = sums[i] - less + more;
+    }
+}
+
+// Where the sums end that the item `j` raises: the next place, or else the last sum's end.
+fn place_after(places: &[u64], j: usize, last: usize) -> usize
+    requires { ⌜ j < length (now places) ⌝ }
+    ensures { λ r. ⌜ r ≡ placeAfter (now (places .entry)) j last ⌝ }
+{
+    let next = j + 1;
+    if next < places.len() {
+        return places[next] as usize;
+    }
+    last
+}
+
+// Gives the place `at` the weight `w`: the sums from there to `end`, before which no other weight changes, are raised alike. `acc` is the changed sum
+// before the place, and the changed sum before `end` is answered. One sum alone is `acc` with the weight, and no loop is made for it.
+fn put(sums: &mut [u32], at: usize, end: usize, acc: u32, w: u32) -> u32
+    requires { ⌜ (at < end → Raisable (now sums) at end (getD (now sums) at 0) (acc + w)) × (at < end → acc + w ≤ mostTotal) ⌝ }
+    ensures { λ r. ⌜ (now (sums .exit) ≡ putAt at end acc w (now (sums .entry))) × (r ≡ sumAt at end acc w (now (sums .entry))) ⌝ }
+{
+    if at >= end {
+        return acc;
+    }
+    let more = acc + w;
+    if end - at == 1 {
+        sums[at] = more;
+        return more;
+    }
+    let old = sums[at];
+    let before = sums[end - 1];
+    raise(sums, at, end, old, more);
+    before - old + more
+}
+
+// Writes the sums of the changed weights over the old ones, from the first place on, item by item.
 fn rewrite(table: WeightedIndex, cumulative_weights: &mut [u32], places: &[u64], weights: &[u32])
     requires { ⌜ Rewritable table (now «cumulative_weights») (now places) (now weights) ⌝ }
     ensures { λ _. ⌜ now («cumulative_weights» .exit) ≡ heldSums (replaced (heldWeights table (now («cumulative_weights» .entry))) (now (places .entry)) (now (weights .entry))) (now («cumulative_weights» .entry)) ⌝ }
@@ -65,24 +108,14 @@ fn rewrite(table: WeightedIndex, cumulative_weights: &mut [u32], places: &[u64],
     }
     let last = (table.count - 1) as usize;
     let first = places[0] as usize;
-    let mut before: u32 = 0;
+    let mut acc: u32 = 0;
     if first > 0 {
-        before = cumulative_weights[first - 1];
+        acc = cumulative_weights[first - 1];
     }
-    let mut acc = before;
-    let mut j = 0;
-    for i in first..last {
-        let sum = cumulative_weights[i];
-        let mut w = sum - before;
-        if j < places.len() {
-            if places[j] == i as u64 {
-                w = weights[j];
-                j += 1;
-            }
-        }
-        acc += w;
-        cumulative_weights[i] = acc;
-        before = sum;
+    for j in 0..places.len() {
+        let at = places[j] as usize;
+        let end = place_after(places, j, last);
+        acc = put(cumulative_weights, at, end, acc, weights[j]);
     }
 }
 

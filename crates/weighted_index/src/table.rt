@@ -3,7 +3,8 @@ ghost use mathlib.Core.Path.{_≡_};
 ghost use mathlib.Core.Bool.{false};
 ghost use Prim.Native.Nat.{_<_, _≤_};
 ghost use lib.ListN.{length, take, getD};
-ghost use Rattle.weighted_index.specs.Rising.{rises};
+ghost use Rattle.weighted_index.specs.Weights.{mostWeights};
+ghost use Rattle.weighted_index.specs.Rising.{rises, topBit, signedFall, signedFalls};
 ghost use Rattle.weighted_index.specs.Tables.{brokenTable, heldWeights};
 ghost use Rattle.weighted_index.specs.Answers.{replied};
 ghost use Rattle.weighted_index.specs.Lookup.{weightOf};
@@ -12,25 +13,60 @@ use super::answer::Lookup;
 use super::answer::MOST_WEIGHTS;
 use super::answer::WeightedIndex;
 use refusal::Refusal;
+use std::num::wrapping_add_u32;
 
-// The first `n` sums never fall, and none is above `total`: if they never fall, that is asked of the last one alone. A
-// loop that never ends early is done for many entries at once.
+// The topmost bit of a number: the definition `topBit`.
+fn top_bit(x: u32) -> u32
+    ensures { λ r. ⌜ r ≡ topBit x ⌝ }
+{
+    x >> 31
+}
+
+// 1 if `a` is above `b`, both read as signed numbers, and else 0: the definition `signedFall`. A processor compares four pairs of signed numbers
+// at once, and has to turn unsigned ones into such first.
+fn signed_fall(a: u32, b: u32) -> u32
+    ensures { λ r. ⌜ (r ≡ signedFall a b) × (r ≤ 1) ⌝ }
+{
+    let x = wrapping_add_u32(a, 0x8000_0000);
+    let y = wrapping_add_u32(b, 0x8000_0000);
+    if x > y {
+        return 1;
+    }
+    0
+}
+
+// How many numbers of `lower` are above those of `upper` at the same places, all read as signed numbers. A loop that never ends early is done for
+// many entries at once.
+fn signed_falls(lower: &[u32], upper: &[u32]) -> u32
+    requires { ⌜ (length (now lower) ≤ length (now upper)) × (length (now lower) ≤ mostWeights) ⌝ }
+    ensures { λ r. ⌜ (r ≡ signedFalls (now (lower .entry)) (now (upper .entry))) × (r ≤ length (now (lower .entry))) ⌝ }
+{
+    let mut falls: u32 = 0;
+    for i in 0..lower.len() {
+        falls += signed_fall(lower[i], upper[i]);
+    }
+    falls
+}
+
+// The first `n` sums never fall, and none is above `total`: if they never fall, that is asked of the last one alone. As signed numbers sums that never
+// fall do so once if the last is 2^31 or more and the first is not, and else never; all others do so more often (`rises-by-signs`).
+// The sums and those behind them are two slices, so that each of both is read as it lies.
 fn is_rising(sums: &[u32], n: usize, total: u32) -> bool
-    requires { ⌜ n ≤ length (now sums) ⌝ }
+    requires { ⌜ (n ≤ length (now sums)) × (n ≤ mostWeights) ⌝ }
     ensures { λ r. ⌜ r ≡ rises 0 (take n (now (sums .entry))) total ⌝ }
 {
-    let mut low: u32 = 0;
-    let mut so_far = true;
-    for i in 0..n {
-        let sum = sums[i];
-        so_far = so_far & (low <= sum);
-        low = sum;
+    if n == 0 {
+        return true;
     }
-    so_far & (low <= total)
+    let falls = signed_falls(&sums[..n - 1], &sums[1..n]);
+    let first = top_bit(sums[0]);
+    let last = sums[n - 1];
+    (falls + first == top_bit(last)) & (last <= total)
 }
 
 // The record and the sums are those of no list of weights: the definition `brokenTable`. Reads all its sums.
 pub fn is_broken(table: WeightedIndex, cumulative_weights: &[u32]) -> bool
+    requires { ⌜ table .count ≤ mostWeights ⌝ }
     ensures { λ r. ⌜ r ≡ brokenTable table (now («cumulative_weights» .entry)) ⌝ }
 {
     let count = table.count;

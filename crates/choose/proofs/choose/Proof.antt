@@ -1,5 +1,6 @@
 -- `choose` meets its contract: a refusal, one draw for a known count, or turn by turn. Assumes nothing.
-use mathlib.Core.Path.{_≡_, sym, ap, _∙_}
+use mathlib.Core.Path.{_≡_, refl, sym, ap, _∙_}
+use mathlib.Core.List.{[]}
 use mathlib.Core.Option.{none}
 use native.Mathlib.Omega.{arith}
 use denote.Ref.{now}
@@ -11,6 +12,7 @@ use Rattle.coin_flipper.specs.Within.{start}
 use Rattle.choose.specs.Choose.{checkOf}
 use Rattle.choose.proofs.HintsChecked.{Hinted, hinted}
 use Rattle.choose.proofs.ChooseCases.{Good, passed, told-good, choose-refused, known, unknown}
+use Rattle.choose.proofs.StableTurns.{one-by-one, no-hints}
 use Rattle.choose.proofs.choose.Statement.{statement}
 use Rattle.choose.proofs.choose.Tie as tie
 
@@ -58,13 +60,43 @@ returns-2 c =
     let a = c .before .before .before .before .before .before .before .before .before .before .args in
     rw (c .choose-exact .ensures) (sym (known (a .rng) (now (a .items)) (now (a .lower)) (now (a .upper)) (a .budget) (done (c .before .before .before .before)) (c .before .if1 .taken)))
 
+no-groups-requires : tie.Need-no-groups-requires
+no-groups-requires c κs = search needs
+
+slice-aggregate-choose-by-hints : tie.Need-slice-aggregate-choose-by-hints
+slice-aggregate-choose-by-hints c = search needs
+
+slice-aggregate-choose-by-hints-2 : tie.Need-slice-aggregate-choose-by-hints-2
+slice-aggregate-choose-by-hints-2 c = search needs
+
+-- the check was passed
+abbrev passing : tie.After-no-groups → tie.After-enum-told
+passing c = c .before .before .before .before
+
+abbrev begun : tie.After-no-groups → tie.Start
+begun c = passing c .before .before .before .before .before .before
+
 choose-by-hints-requires : tie.Need-choose-by-hints-requires
-choose-by-hints-requires c κs = (good (c .before .before .before) .few, record { least = hints (c .before .before .before) .least })
+choose-by-hints-requires c κs = (good (passing (c .before .before .before)) .few, record { least = λ p h. omega arith })
 
 returns-3 : tie.Need-returns-3
 returns-3 c =
-    let a = c .before .before .before .before .before .before .before .before .before .before .args in
-    rw (c .choose-by-hints .ensures) (sym (unknown (a .rng) (now (a .items)) (now (a .lower)) (now (a .upper)) (a .budget) (done (c .before .before .before .before)) (c .before .if1 .left)))
+    let n = c .before .before .before .before in
+    let a = begun n .args in
+    let o = one-by-one (a .budget) in
+    rw (c .choose-by-hints .ensures)
+    (o [] [] (now (a .items)) (no-hints [] refl) 0 [] (start (a .rng))
+    ∙ sym (o (now (a .lower)) (now (a .upper)) (now (a .items)) (n .no-groups .ensures (c .before .before .before .if2 .taken)) 0 [] (start (a .rng)))
+    ∙ sym (unknown (a .rng) (now (a .items)) (now (a .lower)) (now (a .upper)) (a .budget) (done (passing n)) (n .before .if1 .left)))
+
+choose-by-hints-requires-2 : tie.Need-choose-by-hints-requires-2
+choose-by-hints-requires-2 c κs = (good (passing (c .before)) .few, record { least = hints (passing (c .before)) .least })
+
+returns-4 : tie.Need-returns-4
+returns-4 c =
+    let n = c .before .before in
+    let a = begun n .args in
+    rw (c .choose-by-hints2 .ensures) (sym (unknown (a .rng) (now (a .items)) (now (a .lower)) (now (a .upper)) (a .budget) (done (passing n)) (n .before .if1 .left)))
 
 pub choose-spec : {M : Type 1} → statement M
 choose-spec =
@@ -79,5 +111,10 @@ choose-spec =
     shared-slice-read-if1-2
     choose-exact-requires
     returns-2
+    no-groups-requires
+    slice-aggregate-choose-by-hints
+    slice-aggregate-choose-by-hints-2
     choose-by-hints-requires
-    returns-3)
+    returns-3
+    choose-by-hints-requires-2
+    returns-4)

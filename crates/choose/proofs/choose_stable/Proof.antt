@@ -1,5 +1,5 @@
 -- `choose_stable` meets its contract: a refusal, or `stable` of `ChooseCases`. Assumes nothing.
-use mathlib.Core.Path.{_≡_, sym, ap, _∙_}
+use mathlib.Core.Path.{_≡_, refl, sym, ap, _∙_}
 use mathlib.Core.List.{[]}
 use mathlib.Core.Option.{none}
 use native.Mathlib.Omega.{arith}
@@ -10,7 +10,7 @@ use Rattle.refusal.specs.declared.Outcome.{Outcome}
 use Rattle.coin_flipper.specs.Within.{start}
 use Rattle.choose.specs.Choose.{checkOf}
 use Rattle.choose.proofs.ChooseCases.{passed, told-good, stable-refused, stable}
-use Rattle.choose.proofs.StableTurns.{unhinted}
+use Rattle.choose.proofs.StableTurns.{one-by-one, no-hints}
 use Rattle.choose.proofs.choose_stable.Statement.{statement}
 use Rattle.choose.proofs.choose_stable.Tie as tie
 
@@ -53,7 +53,7 @@ returns-2 : tie.Need-returns-2
 returns-2 c =
     let a = c .before .before .before .before .before .before .before .before .before .args in
     rw (c .choose-by-hints .ensures)
-    (unhinted (a .budget) (now (a .items)) 0 [] (start (a .rng)) ∙ sym (stable (a .rng) (now (a .items)) (now (a .lower)) (now (a .upper)) (a .budget) (done (c .before .before .before))))
+    (one-by-one (a .budget) [] [] (now (a .items)) (no-hints [] refl) 0 [] (start (a .rng)) ∙ sym (stable (a .rng) (now (a .items)) (now (a .lower)) (now (a .upper)) (a .budget) (done (c .before .before .before))))
 
 pub choose-stable-spec : {M : Type 1} → statement M
 choose-stable-spec =

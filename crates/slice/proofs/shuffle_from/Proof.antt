@@ -1,52 +1,73 @@
 -- `shuffle_from` meets its contract. The invariant is `Turn`. Assumes nothing.
-use mathlib.Core.Path.{_≡_, ap}
-use Prim.Native.Nat.{_-_}
+use mathlib.Core.Path.{_∙_}
+use Prim.Native.Nat.{_+_, _-_}
 use native.Mathlib.Omega.{arith}
 use borrow.Author.Needs.{needs}
-use denote.Ref.{now}
-use Rattle.increasing_uniform.specs.State.{startOf}
-use Rattle.increasing_uniform.specs.declared.IncreasingUniform.{IncreasingUniform}
-use Rattle.slice.proofs.Turns.{Turn, begin, index-lt, turn, stop, finish, of-call}
+use Rattle.increasing_uniform.proofs.Steps.{bound-pos}
+use Rattle.uniform_int.specs.Draws.{draws}
+use Rattle.slice.proofs.Turns.{Turn, begin, fits, turn, stop, finish, far, same-long}
 use Rattle.slice.proofs.shuffle_from.Statement.{statement}
 use Rattle.slice.proofs.shuffle_from.Tie as tie
 
 abbrev Inv-loop : tie.InvT-loop
-Inv-loop items₀ n budget first chooser₀ start end i₀ items chooser i = Turn budget n (chooser₀ .rng) items₀ chooser items i
+Inv-loop items₀ n budget state₀ words₀ i₀ end near items state words i = Turn budget n 0 state₀ items₀ words state items i
 
 abbrev μ-loop : tie.MeasureT-loop
-μ-loop items₀ n budget first chooser₀ start end i₀ items chooser i = end - i
+μ-loop items₀ n budget state₀ words₀ i₀ end near items state words i = near - i
 
 abbrev begun : tie.At-loop Inv-loop μ-loop → tie.Start Inv-loop μ-loop
-begun c = c .before .before .before
+begun c = c .before .before .before .before
 
-abbrev around : tie.After-next-index Inv-loop μ-loop → tie.At-loop Inv-loop μ-loop
+abbrev sized : tie.After-random-range-wide Inv-loop μ-loop → tie.After-calculate-bound-u32 Inv-loop μ-loop
+sized c = c .before
+
+abbrev around : tie.After-calculate-bound-u32 Inv-loop μ-loop → tie.At-loop Inv-loop μ-loop
 around c = c .before .before
 
-abbrev stepped : tie.After-enum-told Inv-loop μ-loop → tie.After-next-index Inv-loop μ-loop
-stepped c = c .before .before .before
+abbrev left-open : tie.After-enum-told Inv-loop μ-loop → tie.After-random-range-wide Inv-loop μ-loop
+left-open c = c .before .before .before
 
-abbrev stepped-2 : tie.After-draw Inv-loop μ-loop → tie.After-next-index Inv-loop μ-loop
-stepped-2 c = c .before .before .before
+abbrev finished : tie.After-draw Inv-loop μ-loop → tie.After-random-range-wide Inv-loop μ-loop
+finished c = c .before .before .before
 
--- the chooser starts with the generator of the call
-started : (c : tie.At-loop Inv-loop μ-loop) → c .before .new .result .rng ≡ begun c .args .rng
-unfolding startOf
-started c = ap (λ (s : IncreasingUniform). s .rng) (c .before .new .ensures)
+abbrev exchanged : tie.After-exchange-chunk Inv-loop μ-loop → tie.After-draw Inv-loop μ-loop
+exchanged c = c .before .before .before
 
-cast-first : tie.Need-cast-first Inv-loop μ-loop
-cast-first c = search needs
+abbrev gone-far : tie.After-shuffle-far Inv-loop μ-loop → tie.At-loop Inv-loop μ-loop
+gone-far c = c .before .before .before .before
 
-new-requires : tie.Need-new-requires Inv-loop μ-loop
-new-requires c κs = search needs
+first-place-requires : tie.Need-first-place-requires Inv-loop μ-loop
+first-place-requires c κs = search needs
+
+near-end-requires : tie.Need-near-end-requires Inv-loop μ-loop
+near-end-requires c κs = search needs
 
 loop-holds : tie.Need-loop-holds Inv-loop μ-loop
-unfolding startOf
-loop-holds c =
-    let a = c .before .before .args in
-    rw (c .new .ensures) (begin (a .budget) (a .n) (a .rng) (now (a .items)) (omega arith))
+loop-holds c = rw (c .before .first-place .ensures) (begin _ _ _ _ _)
 
-next-index-requires : tie.Need-next-index-requires Inv-loop μ-loop
-next-index-requires c κs = omega (arith, c .before .loop .inv .place)
+shuffle-far-requires : tie.Need-shuffle-far-requires Inv-loop μ-loop
+shuffle-far-requires c κs = let t = c .before .before .before .loop .inv in (omega arith, omega (arith, t .long), omega (arith, t .long))
+
+same-length-2 : tie.Need-same-length-2 Inv-loop μ-loop
+same-length-2 c = let d = c .before .before in same-long _ _ _ _ (d .shuffle-far .result) (d .shuffle-far .ensures) ∙ gone-far d .loop .inv .long
+
+returns-2 : tie.Need-returns-2 Inv-loop μ-loop
+unfolding draws
+returns-2 c = let d = c .before .before in far _ _ _ _ _ _ _ _ _ (gone-far d .loop .inv) _ (d .shuffle-far .result) (d .shuffle-far .ensures)
+
+add-m : tie.Need-add-m Inv-loop μ-loop
+add-m c = search needs
+
+cast-m : tie.Need-cast-m Inv-loop μ-loop
+cast-m c = search needs
+
+calculate-bound-u32-requires : tie.Need-calculate-bound-u32-requires Inv-loop μ-loop
+calculate-bound-u32-requires c κs = search needs
+
+random-range-wide-requires : tie.Need-random-range-wide-requires Inv-loop μ-loop
+random-range-wide-requires c κs =
+    let b = c .calculate-bound-u32 in
+    bound-pos (around c .loop .i + 1) (b .result .bound) (b .result .count) (omega arith) (b .ensures)
 
 enum-known-draw : tie.Need-enum-known-draw Inv-loop μ-loop
 enum-known-draw c = search needs
@@ -55,45 +76,48 @@ enum-told : tie.Need-enum-told Inv-loop μ-loop
 enum-told c = search needs
 
 same-length : tie.Need-same-length Inv-loop μ-loop
-same-length c = around (stepped (c .before)) .loop .inv .long
+same-length c = around (sized (left-open c)) .loop .inv .long
 
 returns : tie.Need-returns Inv-loop μ-loop
+unfolding draws
 returns c =
-    let s = stepped (c .before) in
-    let l = around s in
-    of-call _ _ _ _ _ _ _ (started l) (stop _ _ _ _ _ _ _ (l .loop .inv) (omega arith) (s .next-index .result) (s .next-index .ensures) (c .before .enum-told .given .1))
+    let d = left-open c in
+    let b = sized d in
+    let l = around b .loop in
+    stop _ _ _ _ _ _ _ _ _ (l .inv) (omega arith) _ _ (b .calculate-bound-u32 .ensures) (d .random-range-wide .result) (d .random-range-wide .ensures) (c .enum-told .given .1)
 
-cast-there : tie.Need-cast-there Inv-loop μ-loop
-cast-there c = search needs
-
-swap-requires : tie.Need-swap-requires Inv-loop μ-loop
-swap-requires c κs =
-    let d = c .before .before in
-    let s = stepped-2 d in
-    let inv = around s .loop .inv in
-    let k = index-lt _ _ _ _ _ _ _ inv (omega arith) (s .next-index .result) (s .next-index .ensures) _ (d .draw .given .1) in
-    (omega (arith, inv .long), omega (arith, inv .long))
-
-add-i : tie.Need-add-i Inv-loop μ-loop
-add-i c = search needs
+exchange-chunk-requires : tie.Need-exchange-chunk-requires Inv-loop μ-loop
+exchange-chunk-requires c κs =
+    let v = c .before .before in
+    let d = finished v in
+    let b = sized d in
+    let l = around b .loop in
+    let chunk = fits _ _ _ _ _ _ _ _ _ (l .inv) (omega arith) _ _ (b .calculate-bound-u32 .ensures) (d .random-range-wide .result) (d .random-range-wide .ensures) _ (v .draw .given .1) in
+    (omega (arith, l .inv .long), omega (arith, l .inv .long, begun (around b) .pre .1), chunk .0, chunk .1)
 
 loop-less : tie.Need-loop-less Inv-loop μ-loop
-loop-less c = search needs
+loop-less c =
+    let x = c .before .before in
+    let b = sized (finished (exchanged x)) in
+    let l = around b .loop in
+    omega (arith, l .inv .long, x .exchange-chunk .ensures .place, b .calculate-bound-u32 .ensures .number)
 
 loop-again : tie.Need-loop-again Inv-loop μ-loop
 loop-again c =
-    let w = c .before .before in
-    let d = w .before .before .before in
-    let s = stepped-2 d in
-    rw (w .swap .ensures) (turn _ _ _ _ _ _ _ (around s .loop .inv) (omega arith) (s .next-index .result) (s .next-index .ensures) _ (d .draw .given .1))
+    let x = c .before .before in
+    let v = exchanged x in
+    let d = finished v in
+    let b = sized d in
+    let l = around b .loop in
+    turn _ _ _ _ _ _ _ _ _ (l .inv) (omega arith) _ _ (b .calculate-bound-u32 .ensures) (d .random-range-wide .result) (d .random-range-wide .ensures) _ (v .draw .given .1) _ _
+    (x .exchange-chunk .ensures)
 
-same-length-2 : tie.Need-same-length-2 Inv-loop μ-loop
-same-length-2 c = c .before .before .loop .inv .long
+same-length-3 : tie.Need-same-length-3 Inv-loop μ-loop
+same-length-3 c = c .before .before .loop .inv .long
 
-returns-2 : tie.Need-returns-2 Inv-loop μ-loop
-returns-2 c =
-    let l = c .before .before in
-    of-call _ _ _ _ _ _ _ (started l) (finish _ _ _ _ _ _ _ (l .loop .inv) (omega arith))
+returns-3 : tie.Need-returns-3 Inv-loop μ-loop
+unfolding draws
+returns-3 c = finish _ _ _ _ _ _ _ _ _ (c .before .before .loop .inv) (omega arith)
 
 pub shuffle-from-spec : {M : Type 1} → statement M
 shuffle-from-spec =
@@ -101,18 +125,22 @@ shuffle-from-spec =
     (tie.spec
     Inv-loop
     μ-loop
-    cast-first
-    new-requires
+    first-place-requires
+    near-end-requires
     loop-holds
-    next-index-requires
+    add-m
+    cast-m
+    calculate-bound-u32-requires
+    random-range-wide-requires
     enum-known-draw
     enum-told
     same-length
     returns
-    cast-there
-    swap-requires
-    add-i
+    exchange-chunk-requires
     loop-less
     loop-again
+    shuffle-far-requires
     same-length-2
-    returns-2)
+    returns-2
+    same-length-3
+    returns-3)

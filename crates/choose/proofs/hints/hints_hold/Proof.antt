@@ -8,10 +8,10 @@ use Rattle.choose.proofs.hints.hints_hold.Statement.{statement}
 use Rattle.choose.proofs.hints.hints_hold.Tie as tie
 
 abbrev Inv-loop : tie.InvT-loop
-Inv-loop n lower upper so-far₀ p₀ so-far p = Tested n lower upper p so-far
+Inv-loop n lower upper count so-far₀ p₀ so-far p = Tested n lower upper p so-far
 
 abbrev μ-loop : tie.MeasureT-loop
-μ-loop n lower upper so-far₀ p₀ so-far p = n + 1 - p
+μ-loop n lower upper count so-far₀ p₀ so-far p = n + 1 - p
 
 add-if1 : tie.Need-add-if1 Inv-loop μ-loop
 add-if1 c = omega arith
@@ -25,11 +25,17 @@ add-if2 c = omega arith
 returns-2 : tie.Need-returns-2 Inv-loop μ-loop
 returns-2 c = let a = c .before .before .args in sym (wrong-upper (a .n) (now (a .lower)) (now (a .upper)) (c .if2 .taken))
 
+cast-count : tie.Need-cast-count Inv-loop μ-loop
+cast-count c = omega arith
+
 loop-holds : tie.Need-loop-holds Inv-loop μ-loop
 loop-holds c = let a = c .before .before .args in begin (a .n) (now (a .lower)) (now (a .upper)) (c .before .if1 .left) (c .if2 .left)
 
-cast-remain : tie.Need-cast-remain Inv-loop μ-loop
-cast-remain c = omega arith
+cast-place : tie.Need-cast-place Inv-loop μ-loop
+cast-place c = omega arith
+
+sub-remain : tie.Need-sub-remain Inv-loop μ-loop
+sub-remain c = omega arith
 
 mul-so-far : tie.Need-mul-so-far Inv-loop μ-loop
 mul-so-far c = omega (arith, c .before .loop .inv .lower)
@@ -71,8 +77,10 @@ hints-hold-spec =
     returns
     add-if2
     returns-2
+    cast-count
     loop-holds
-    cast-remain
+    cast-place
+    sub-remain
     mul-so-far
     shared-slice-read-so-far
     mul-so-far-2

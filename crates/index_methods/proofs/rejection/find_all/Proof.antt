@@ -6,11 +6,12 @@ use Prim.Native.Nat.{ℕ, _+_, _-_, _%_, _^_, _≤_, _<_}
 use native.Mathlib.Omega.{arith}
 use native.Mathlib.Numerals.{add-one}
 use denote.Ref.{now}
-use lib.ListN.{take, drop, set, length-set}
+use lib.ListN.{take, set}
 use lib.Seq.{take-suc-set}
 use borrow.Author.Tests.{not-true, not-false}
 use Rattle.counting.specs.Lists.{member}
 use Rattle.uniform_int.specs.Rejecting.{shown}
+use Rattle.index_methods.specs.Rejection.{Found, foundFrom}
 use Rattle.index_methods.specs.Seen.{Asked}
 use Rattle.index_methods.proofs.RejectionTurns.{draw, Turn, begin, finish, words-fall, spent-turn, dropped-turn, kept-turn}
 use Rattle.index_methods.proofs.SeenBits.{asked-grown, asked-same}
@@ -19,12 +20,13 @@ use Rattle.index_methods.proofs.rejection.find_all.Statement.{statement
 use Rattle.index_methods.proofs.rejection.find_all.Tie as tie
 
 abbrev Inv-loop : tie.InvT-loop
-Inv-loop length amount budget indices₀ seen₀ uniform state₀ words₀ count₀ indices seen state words count =
-    (uniform ≡ record { range = length; thresh = 2 ^ 32 % length }) × Turn length amount budget state₀ indices₀ state indices words count
+Inv-loop length amount words budget indices₀ seen₀ uniform state₀ read₀ count₀ indices seen state read count =
+    (uniform ≡ record { range = length; thresh = 2 ^ 32 % length })
+    × Turn length amount budget (foundFrom length [] amount (budget - read₀) state₀ read₀) indices₀ state indices read count
     × Asked seen (take count indices) × (lib.ListN.length seen ≡ lib.ListN.length seen₀)
 
 abbrev μ-loop : tie.MeasureT-loop
-μ-loop length amount budget indices₀ seen₀ uniform state₀ words₀ count₀ indices seen state words count = budget - words
+μ-loop length amount words budget indices₀ seen₀ uniform state₀ read₀ count₀ indices seen state read count = budget - read
 
 -- ---- the contexts behind a need: the start, a turn's begin, its draw, and its look for what is held
 
@@ -40,8 +42,12 @@ drawing c = c .before .before .before
 abbrev looking : tie.After-is-new Inv-loop μ-loop → tie.After-draw Inv-loop μ-loop
 looking c = c .before .before .before .before
 
+-- what the whole call finds
+abbrev target : tie.Start Inv-loop μ-loop → Found
+target c = let a = c .args in foundFrom (a .length) [] (a .amount) (a .budget - a .words) (a .rng) (a .words)
+
 -- a turn's draw is the definition's, at the threshold that `new` gave
-made : (c : tie.After-sample Inv-loop μ-loop) → let l = turning c .loop in let a = begun (turning c) .args in shown (c .sample .result) ≡ draw (a .length) (a .budget - l .words) (l .state) (l .words)
+made : (c : tie.After-sample Inv-loop μ-loop) → let l = turning c .loop in let a = begun (turning c) .args in shown (c .sample .result) ≡ draw (a .length) (a .budget - l .read) (l .state) (l .read)
 made c = rw (c .before .before .loop .inv .0) at (c .sample .ensures)
 
 -- ---- a turn that has drawn a value
@@ -61,10 +67,10 @@ module _ (c : tie.After-draw Inv-loop μ-loop) where
   Next l count =
       let a = begun at .args in
       let s = drawing c .sample .result in
-      Turn (a .length) (a .amount) (a .budget) (a .rng) (now (a .indices)) (s .rng) l (s .words) count
+      Turn (a .length) (a .amount) (a .budget) (target (begun at)) (now (a .indices)) (s .rng) l (s .words) count
 
   record Turns : Type 0 where
-    fall : (at .loop .words < drawing c .sample .result .words) × (drawing c .sample .result .words ≤ begun at .args .budget)
+    fall : (at .loop .read < drawing c .sample .result .words) × (drawing c .sample .result .words ≤ begun at .args .budget)
     kept : member value held ≡ false → Next (set (at .loop .indices) (at .loop .count) value) (at .loop .count + 1)
     dropped : member value held ≡ true → Next (at .loop .indices) (at .loop .count)
 
@@ -72,15 +78,15 @@ module _ (c : tie.After-draw Inv-loop μ-loop) where
   turns =
       let a = begun at .args in
       let l = at .loop in
-      let room = begun at .pre .1 in
+      let room = begun at .pre .2 in
       let s = drawing c .sample .result in
       let e = made (drawing c) in
       let told = c .draw .given .1 in
       let more : l .count < a .amount = omega arith in
       record {
-        fall = words-fall (a .length) (a .amount) (a .budget) (a .rng) (now (a .indices)) room (l .state) (l .indices) (l .words) (l .count) (l .inv .1) more s e value told;
-        kept = λ new. kept-turn (a .length) (a .amount) (a .budget) (a .rng) (now (a .indices)) room (l .state) (l .indices) (l .words) (l .count) (l .inv .1) more s e value told new;
-        dropped = λ old. dropped-turn (a .length) (a .amount) (a .budget) (a .rng) (now (a .indices)) room (l .state) (l .indices) (l .words) (l .count) (l .inv .1) more s e value told old;
+        fall = words-fall (a .length) (a .amount) (a .budget) (target (begun at)) (now (a .indices)) room (l .state) (l .indices) (l .read) (l .count) (l .inv .1) more s e value told;
+        kept = λ new. kept-turn (a .length) (a .amount) (a .budget) (target (begun at)) (now (a .indices)) room (l .state) (l .indices) (l .read) (l .count) (l .inv .1) more s e value told new;
+        dropped = λ old. dropped-turn (a .length) (a .amount) (a .budget) (target (begun at)) (now (a .indices)) room (l .state) (l .indices) (l .read) (l .count) (l .inv .1) more s e value told old;
       }
 
 -- ---- the needs
@@ -90,8 +96,9 @@ new-requires c κs = search needs
 
 loop-holds : tie.Need-loop-holds Inv-loop μ-loop
 loop-holds c =
-    let a = c .before .before .before .args in
-    (c .new .ensures, begin (a .length) (a .amount) (a .budget) (a .rng) (now (a .indices)) (c .before .before .before .pre .1), c .before .before .before .pre .2, refl)
+    let start = c .before .before .before in
+    let a = start .args in
+    (c .new .ensures, begin (a .length) (a .amount) (a .budget) (target start) (now (a .indices)) (start .pre .2) (a .words) (a .rng) (start .pre .1) refl, start .pre .3, refl)
 
 sample-requires : tie.Need-sample-requires Inv-loop μ-loop
 sample-requires c κs = search needs
@@ -113,10 +120,10 @@ returns c =
     let before = turning (c .before .before .before) in
     let a = begun before .args in
     let l = before .loop in
-    let room = begun before .pre .1 in
+    let room = begun before .pre .2 in
     let s = c .before .before .before .sample in
     let e = made (c .before .before .before) in
-    spent-turn (a .length) (a .amount) (a .budget) (a .rng) (now (a .indices)) room (l .state) (l .indices) (l .words) (l .count) (l .inv .1) (omega arith) (s .result) e (c .enum-told .given .1)
+    (spent-turn (a .length) (a .amount) (a .budget) (target (begun before)) (now (a .indices)) room (l .state) (l .indices) (l .read) (l .count) (l .inv .1) (omega arith) (s .result) e (c .enum-told .given .1), l .inv .2)
 
 cast-at : tie.Need-cast-at Inv-loop μ-loop
 cast-at c = search needs
@@ -167,8 +174,8 @@ returns-2 : tie.Need-returns-2 Inv-loop μ-loop
 returns-2 c =
     let a = begun (c .before) .args in
     let l = c .before .loop in
-    let room = begun (c .before) .pre .1 in
-    finish (a .length) (a .amount) (a .budget) (a .rng) (now (a .indices)) room (l .state) (l .indices) (l .words) (l .count) (l .inv .1) (omega arith)
+    let room = begun (c .before) .pre .2 in
+    (finish (a .length) (a .amount) (a .budget) (target (begun (c .before))) (now (a .indices)) room (l .state) (l .indices) (l .read) (l .count) (l .inv .1) (omega arith), l .inv .2)
 
 pub find-all-spec : {M : Type 1} → statement M
 find-all-spec =

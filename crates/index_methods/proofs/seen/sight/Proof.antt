@@ -1,9 +1,10 @@
 -- `sight` meets its contract. Assumes nothing.
 use mathlib.Core.Logic.{inl, inr}
-use Prim.Native.Nat.{_/_, _^_}
+use Prim.Native.Nat.{_*_, _/_, _^_}
 use native.Mathlib.Omega.{arith}
 use denote.Ref.{now}
 use lib.ListN.{length}
+use Rattle.index_methods.specs.Seen.{spread}
 use borrow.Author.Tests.{not-true}
 use Rattle.index_methods.proofs.SeenBits.{sighted, place-lt}
 use borrow.Author.Needs.{needs}
@@ -22,27 +23,34 @@ cast-mask c = search needs
 mark-requires : tie.Need-mark-requires
 mark-requires c κs = place-lt (c .before .before .args .v) (length (now (c .before .before .args .seen))) (omega arith)
 
+second-place-requires : tie.Need-second-place-requires
+second-place-requires c κs = search needs
+
 mark-requires-2 : tie.Need-mark-requires-2
 mark-requires-2 c κs =
-    let a = c .before .before .before .before .before .before .args in
-    let long = c .before .before .before .mark .ensures .long in
-    omega (arith, place-lt (a .v / 2 ^ 13) (length (now (a .seen))) (omega arith))
+    let first = c .before .before .before .before in
+    let a = first .before .before .before .args in
+    rw (c .second-place .ensures) (omega (arith, first .mark .ensures .long, place-lt (a .v * spread / 2 ^ 10) (length (now (a .seen))) (omega arith)))
 
 same-length : tie.Need-same-length
 same-length c = search needs
 
 returns : tie.Need-returns
 returns c =
-    let a = c .before .before .before .before .before .before .before .before .before .before .args in
-    sighted (a .v) (now (a .seen)) _ _ _ _ _ (c .before .before .before .before .before .before .before .mark .ensures) (c .before .before .before .mark2 .ensures) (λ e. inl (not-true _ (c .if1 .taken)))
+    let second = c .before .before .before in
+    let first = second .before .before .before .before .before in
+    let a = first .before .before .before .args in
+    sighted (a .v) (now (a .seen)) _ _ _ _ _ (first .mark .ensures) (rw (second .before .second-place .ensures) at (second .mark2 .ensures)) (λ e. inl (not-true _ (c .if1 .taken)))
 
 same-length-2 : tie.Need-same-length-2
 same-length-2 c = search needs
 
 returns-2 : tie.Need-returns-2
 returns-2 c =
-    let a = c .before .before .before .before .before .before .before .before .before .before .args in
-    sighted (a .v) (now (a .seen)) _ _ _ _ _ (c .before .before .before .before .before .before .before .mark .ensures) (c .before .before .before .mark2 .ensures) (λ e. inr e)
+    let second = c .before .before .before in
+    let first = second .before .before .before .before .before in
+    let a = first .before .before .before .args in
+    sighted (a .v) (now (a .seen)) _ _ _ _ _ (first .mark .ensures) (rw (second .before .second-place .ensures) at (second .mark2 .ensures)) (λ e. inr e)
 
 pub sight-spec : {M : Type 1} → statement M
 sight-spec =
@@ -52,6 +60,7 @@ sight-spec =
     sub-mask
     cast-mask
     mark-requires
+    second-place-requires
     mark-requires-2
     same-length
     returns

@@ -17,8 +17,8 @@ abbrev μ-loop : tie.MeasureT-loop
 loop-holds : tie.Need-loop-holds Inv-loop μ-loop
 loop-holds c = (begin _ _ _ _ _ _ refl, refl)
 
-sample-requires : tie.Need-sample-requires Inv-loop μ-loop
-sample-requires c κs = tt
+pick-whole-requires : tie.Need-pick-whole-requires Inv-loop μ-loop
+pick-whole-requires c κs = search needs
 
 after-requires : tie.Need-after-requires Inv-loop μ-loop
 after-requires c κs = tt
@@ -43,7 +43,7 @@ returns c =
     let c₁ = c .before .before .before in
     let c₂ = c₁ .before .before in
     let l = c₂ .before .before .loop in
-    refused _ _ _ _ _ _ (stop _ _ _ _ _ _ _ _ _ (omega arith) (l .inv .0) (c₂ .sample .result) (c₂ .sample .ensures) _ (c₁ .after .ensures) (c .before .answer2 .given .0 .0) (c .before .answer2 .given .1))
+    refused _ _ _ _ _ _ (stop _ _ _ _ _ _ _ _ _ (omega arith) (l .inv .0) (c₂ .pick-whole .result) (c₂ .pick-whole .ensures) _ (c₁ .after .ensures) (c .before .answer2 .given .0 .0) (c .before .answer2 .given .1))
 
 add-i : tie.Need-add-i Inv-loop μ-loop
 add-i c = search needs
@@ -56,7 +56,7 @@ loop-again c =
     let c₁ = c .before .before .before in
     let c₂ = c₁ .before .before in
     let l = c₂ .before .before .loop in
-    (turn _ _ _ _ _ _ _ _ _ (omega arith) (l .inv .0) (c₂ .sample .result) (c₂ .sample .ensures) _ (c₁ .after .ensures) _ (c .before .answer .given .1), l .inv .1)
+    (turn _ _ _ _ _ _ _ _ _ (omega arith) (l .inv .0) (c₂ .pick-whole .result) (c₂ .pick-whole .ensures) _ (c₁ .after .ensures) _ (c .before .answer .given .1), l .inv .1)
 
 same-length-2 : tie.Need-same-length-2 Inv-loop μ-loop
 same-length-2 c = search needs
@@ -71,7 +71,7 @@ pick-all-spec =
     Inv-loop
     μ-loop
     loop-holds
-    sample-requires
+    pick-whole-requires
     after-requires
     enum-known-answer
     mul-picks

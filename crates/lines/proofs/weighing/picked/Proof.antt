@@ -1,6 +1,8 @@
 -- `picked` meets its contract: picks, or the refusal that made no table. Assumes nothing.
+use denote.Ref.{now}
 use borrow.Author.Needs.{needs}
 use Rattle.lines.proofs.ToldTables.{picks-told, no-picks-told, no-table-picks}
+use Rattle.lines.proofs.WholeTables.{few-weights, is-whole}
 use Rattle.lines.proofs.weighing.picked.Statement.{statement}
 use Rattle.lines.proofs.weighing.picked.Tie as tie
 
@@ -11,7 +13,10 @@ enum-known-answer : tie.Need-enum-known-answer
 enum-known-answer c = search needs
 
 pick-all-requires : tie.Need-pick-all-requires
-pick-all-requires c κs = tt
+pick-all-requires c κs =
+    let a = c .before .before in
+    let s = a .before .before .before .before .before in
+    (few-weights (s .args .made) (now (s .args .sums)) (s .pre) _ (a .answer .given .1), is-whole (s .args .made) (now (s .args .sums)) (s .pre) _ (a .answer .given .1))
 
 number-requires : tie.Need-number-requires
 number-requires c κs = tt

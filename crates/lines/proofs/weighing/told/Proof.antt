@@ -8,7 +8,7 @@ number-requires : tie.Need-number-requires
 number-requires c κs = tt
 
 picked-requires : tie.Need-picked-requires
-picked-requires c κs = tt
+picked-requires c κs = c .before .before .before .before .before .before .pre .3
 
 same-length : tie.Need-same-length
 same-length c = search needs
@@ -22,7 +22,7 @@ number-requires-2 : tie.Need-number-requires-2
 number-requires-2 c κs = tt
 
 looked-requires : tie.Need-looked-requires
-looked-requires c κs = tt
+looked-requires c κs = c .before .before .before .before .before .pre .3
 
 put-requires : tie.Need-put-requires
 put-requires c κs =

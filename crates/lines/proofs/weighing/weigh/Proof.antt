@@ -2,6 +2,7 @@
 use borrow.Author.Tests.{not-true, not-false}
 use Rattle.lines.proofs.MadeTables.{no-table, table}
 use Rattle.lines.proofs.ToldTables.{table-told, wrong-told}
+use Rattle.lines.proofs.WholeTables.{of-line}
 use borrow.Author.Needs.{needs}
 use Rattle.lines.proofs.weighing.weigh.Statement.{statement}
 use Rattle.lines.proofs.weighing.weigh.Tie as tie
@@ -47,8 +48,15 @@ part-table-of-end c = search needs
 table-of-requires : tie.Need-table-of-requires
 table-of-requires c κs = search needs
 
+-- where the table of the line was made
+abbrev begun : tie.After-table-of → tie.Start
+begun o = o .before .before .before .before .before .before .before .before .before .before .before .before .before .before .before .before .before .before .before
+
 told-requires : tie.Need-told-requires
-told-requires c κs = search needs
+told-requires c κs =
+    let o = c .before .before .before .before in
+    let s = begun o in
+    (s .pre .0, s .pre .1, s .pre .2, rw (o .table-of .ensures) (of-line _ _ _ _))
 
 same-length-3 : tie.Need-same-length-3
 same-length-3 c = search needs

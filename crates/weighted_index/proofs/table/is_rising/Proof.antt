@@ -1,78 +1,93 @@
--- `is_rising` meets its contract: the tests so far and the sums left, from the last one on, decide. Assumes nothing.
-use mathlib.Core.Path.{_≡_, refl, sym, ap, _∙_}
-use mathlib.Core.Bool.{Bool, _&&_}
-use mathlib.Core.List.{List, [], _∷_}
-use Prim.Native.Nat.{ℕ, suc, _-_, _≤_}
-use native.Mathlib.Numerals.{add-one}
+-- `is_rising` meets its contract: the falls as signed numbers decide. Assumes nothing.
+use mathlib.Core.Path.{sym}
+use Prim.Native.Nat.{_-_}
 use native.Mathlib.Omega.{arith}
 use denote.Ref.{now}
-use lib.Dec.{leb}
-use lib.ListN.{length, take, drop, getD, drop-of-length-le}
-use lib.Seq.{length-take-le, getD-take, drop-cons}
-use Rattle.weighted_index.specs.Rising.{rises}
-use Rattle.weighted_index.proofs.Rising.{rises-nil, rises-turn}
+use lib.ListN.{drop, getD, length-drop}
+use lib.Seq.{length-take-le}
+use Rattle.weighted_index.proofs.Signs.{decided, none, top-most}
 use borrow.Author.Needs.{needs}
 use Rattle.weighted_index.proofs.table.is_rising.Statement.{statement}
 use Rattle.weighted_index.proofs.table.is_rising.Tie as tie
 
-abbrev Inv-loop : tie.InvT-loop
-Inv-loop sums n total low₀ so-far₀ i₀ low so-far i = (i ≤ n) × ((so-far && rises low (drop i (take n sums)) total) ≡ rises 0 (take n sums) total)
+returns : tie.Need-returns
+returns c = let a = c .before .before .args in none (now (a .sums)) (a .n) (a .total) (c .if1 .taken)
 
-abbrev μ-loop : tie.MeasureT-loop
-μ-loop sums n total low₀ so-far₀ i₀ low so-far i = n - i
+sub-signed-falls : tie.Need-sub-signed-falls
+sub-signed-falls c = search needs
 
--- the sum at i, in front of those left
-split : (sums : List ℕ) (n i : ℕ) → n ≤ length sums → suc i ≤ n → drop i (take n sums) ≡ getD sums i 0 ∷ drop (suc i) (take n sums)
-split sums n i h l =
-    let full = length-take-le n sums h in
-    drop-cons (take n sums) i 0 (omega arith) ∙ ap (λ (x : ℕ). x ∷ drop (suc i) (take n sums)) (getD-take n sums i 0 l)
+slice-aggregate-signed-falls : tie.Need-slice-aggregate-signed-falls
+slice-aggregate-signed-falls c =
+    let s = c .before .before .before in
+    sym (length-take-le (s .args .n - 1) (now (s .args .sums)) (omega (arith, s .pre .0)))
 
-loop-holds : tie.Need-loop-holds Inv-loop μ-loop
-loop-holds c = (omega arith, refl)
+sub-signed-falls-2 : tie.Need-sub-signed-falls-2
+sub-signed-falls-2 c = search needs
 
-mul-sum : tie.Need-mul-sum Inv-loop μ-loop
-mul-sum c = search needs
+part-signed-falls-start : tie.Need-part-signed-falls-start
+part-signed-falls-start c = search needs
 
-shared-slice-read-sum : tie.Need-shared-slice-read-sum Inv-loop μ-loop
-shared-slice-read-sum c = search needs
+part-signed-falls-end : tie.Need-part-signed-falls-end
+part-signed-falls-end c = search needs
 
-add-i : tie.Need-add-i Inv-loop μ-loop
-add-i c = search needs
+signed-falls-requires : tie.Need-signed-falls-requires
+signed-falls-requires c κs =
+    let s = c .before .before .before .before in
+    let n = s .args .n in
+    let sums = now (s .args .sums) in
+    let lower = length-take-le (n - 1) sums (omega (arith, s .pre .0)) in
+    let upper = length-take-le (n - 1) (drop 1 sums) (omega (arith, s .pre .0, length-drop 1 sums)) in
+    (omega (arith, lower, upper), omega (arith, lower, s .pre .1))
 
-loop-less : tie.Need-loop-less Inv-loop μ-loop
-loop-less c = search needs
+shared-slice-read-top-bit : tie.Need-shared-slice-read-top-bit
+shared-slice-read-top-bit c = search needs
 
-loop-again : tie.Need-loop-again Inv-loop μ-loop
-loop-again c =
-    let a = c .before .before .before .args in
-    let l = c .before .before .loop in
-    let s = now (a .sums) in (
-      omega arith,
-      rw (add-one (l .i))
-          (sym (rises-turn (l .so-far) (l .low) (getD s (l .i) 0) (drop (suc (l .i)) (take (a .n) s)) (a .total))
-          ∙ ap (λ (xs : List ℕ). l .so-far && rises (l .low) xs (a .total)) (sym (split s (a .n) (l .i) (omega arith) (omega arith))) ∙ l .inv .1),
-    )
+top-bit-requires : tie.Need-top-bit-requires
+top-bit-requires c κs = search needs
 
-returns : tie.Need-returns Inv-loop μ-loop
-returns c =
-    let a = c .before .before .args in
-    let l = c .before .loop in
-    let s = now (a .sums) in
-    let full = length-take-le (a .n) s (omega arith) in
-    let none = drop-of-length-le (take (a .n) s) {i = l .i} (omega arith) in
-    ap (λ (b : Bool). l .so-far && b) (sym (rises-nil (l .low) (a .total)))
-    ∙ ap (λ (xs : List ℕ). l .so-far && rises (l .low) xs (a .total)) (sym none) ∙ l .inv .1
+sub-last : tie.Need-sub-last
+sub-last c = search needs
+
+mul-last : tie.Need-mul-last
+mul-last c = search needs
+
+shared-slice-read-last : tie.Need-shared-slice-read-last
+shared-slice-read-last c = search needs
+
+add-result : tie.Need-add-result
+add-result c =
+    let s = c .before .before .before .before .before .before .before .before in
+    let lower = length-take-le (s .args .n - 1) (now (s .args .sums)) (omega (arith, s .pre .0)) in
+    record { fits = omega (arith, c .before .before .before .signed-falls .ensures .1, lower, c .before .top-bit .ensures, top-most (getD (now (s .args .sums)) 0 0), s .pre .1) }
+
+top-bit-requires-2 : tie.Need-top-bit-requires-2
+top-bit-requires-2 c κs = search needs
+
+abbrev begun : tie.After-top-bit2 → tie.Start
+begun c = c .before .before .before .before .before .before .before .before .before
+
+returns-2 : tie.Need-returns-2
+returns-2 c =
+    let s = begun c in
+    decided (now (s .args .sums)) (s .args .n) (s .args .total) _ _ _ (omega arith) (s .pre .0)
+    (c .before .before .before .before .signed-falls .ensures .0) (c .before .before .top-bit .ensures) (c .top-bit2 .ensures)
 
 pub is-rising-spec : {M : Type 1} → statement M
 is-rising-spec =
     tie.close
     (tie.spec
-    Inv-loop
-    μ-loop
-    loop-holds
-    mul-sum
-    shared-slice-read-sum
-    add-i
-    loop-less
-    loop-again
-    returns)
+    returns
+    sub-signed-falls
+    slice-aggregate-signed-falls
+    sub-signed-falls-2
+    part-signed-falls-start
+    part-signed-falls-end
+    signed-falls-requires
+    shared-slice-read-top-bit
+    top-bit-requires
+    sub-last
+    mul-last
+    shared-slice-read-last
+    add-result
+    top-bit-requires-2
+    returns-2)
