@@ -115,7 +115,8 @@ uint32_t gapyndura_next_u32(uint64_t state[4], uint64_t out[2]);
  *   amount 12 to 162   the method in place if length is small (to 350 for 12, to 43610 for 162), else Floyd's;
  *   amount from 163    the method in place if length is below some 270 times the amount (37 times, from length 500000 on), else rejection.
  * The method in place needs length entries of scratch, the others none. budget is the most words that the call may read, by any method.
- * A call uses some 40 KiB of stack, since rejection keeps a filter in a local array.
+ * Rejection keeps what it has found in local arrays. So a call by rejection uses some 5 KiB of stack for amounts to 1000, some 65 KiB to 20000
+ * and some 641 KiB above. The other methods use less than 1 KiB.
  *
  * Answers 0 if the sample is drawn, else the first of these that applies:
  *   12  all four words of state are 0: that is no generator
@@ -151,7 +152,7 @@ uint32_t gapyndura_sample(uint64_t state[4], uint64_t length, uint64_t amount, u
  * Each part in turn is drawn by gapyndura_sample with its own length and amount, and so by the method that these choose, from the
  * generator that the part before has left and with what is left of budget. Then the part's start is added to its indices. All parts use
  * the same scratch; no start is added there. A part with amount 0 reads no word, but its length counts for the starts behind it. There may
- * be no parts: then no word is read. A call uses as much stack as gapyndura_sample.
+ * be no parts: then no word is read. A call uses as much stack as the largest of these samples.
  *
  * Answers 0 if all parts are drawn, else the first of these that applies to any of them:
  *   12  all four words of state are 0: that is no generator

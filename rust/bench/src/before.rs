@@ -6,10 +6,14 @@ use std::time::Duration;
 
 use reference::State;
 
+use crate::seed::seed;
 use crate::sides::{Case, Timed};
 
 /// The word that makes this program answer another.
 pub const SERVE: &str = "--serve";
+
+/// The word before a seed.
+pub const SEED: &str = "--seed";
 
 /// The port's side of a case in the other build.
 pub struct Before {
@@ -28,6 +32,10 @@ impl Before {
     pub fn start(program: &str, case: &str) -> io::Result<Self> {
         let mut command = Command::new(program);
         command.args([SERVE, case]);
+        // A build from before there were seeds has the seed 0.
+        if seed() > 0 {
+            command.args([SEED, &seed().to_string()]);
+        }
         let mut child = command
             .stdin(Stdio::piped())
             .stdout(Stdio::piped())

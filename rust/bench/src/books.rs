@@ -13,8 +13,8 @@ use reference::book_text::seed;
 use reference::generator::Generator;
 
 use crate::memory::peak;
-use crate::numbers::{grouped, rounded};
-use crate::timing::{Plan, median};
+use crate::numbers::{grouped, rounded, with_spread};
+use crate::timing::{Middle, Plan, median};
 
 /// How many times the time of another case one has here: a process takes longer than a call.
 const TIMES: u32 = 4;
@@ -154,7 +154,7 @@ impl Case {
             .iter()
             .zip(&times[0])
             .map(|(ours, rand)| ours / rand);
-        let ratio = rounded(median(ratios.collect()), 2);
+        let ratio = with_spread(Middle::of(ratios.collect()));
         let [rand, ours] = times.map(|times| rounded(median(times), 1));
         let memory = programs.map(|program| peak(program, &self.book));
         let [rand_peak, our_peak] = memory.map(|kib| kib.map(grouped));

@@ -6,9 +6,11 @@ mod books;
 mod choices;
 mod divisions;
 mod generators;
+mod growth;
 mod memory;
 mod numbers;
 mod samples;
+mod seed;
 mod shuffles;
 mod sides;
 mod table;
@@ -57,6 +59,10 @@ const QUICK: Plan = Plan {
 /// What is asked for.
 struct Asked {
     plan: Plan,
+    seed: u32,
+    /// Whether the growth of cost is measured in place of the tables, and the largest size.
+    growth: bool,
+    most: usize,
     /// Another build of this program, to be measured in rand's place.
     before: Option<String>,
     /// Whether another build asks.
@@ -69,10 +75,15 @@ struct Asked {
 fn main() -> ExitCode {
     let Some(asked) = asked(env::args().skip(1)) else {
         eprintln!(
-            "usage: bench [--quick] [--before ANOTHER BUILD OF BENCH | --book PROGRAM] [PART OF A CASE'S NAME]"
+            "usage: bench [--quick] [--seed N] [--before ANOTHER BUILD OF BENCH | --book PROGRAM | --growth [--most SIZE]] [PART OF A CASE'S NAME]"
         );
         return ExitCode::from(2);
     };
+    seed::set(asked.seed);
+    if asked.growth {
+        growth::print(&asked.plan, &asked.part, asked.most);
+        return ExitCode::SUCCESS;
+    }
     let groups = selected(&asked.part);
     if groups.is_empty() {
         eprintln!("bench: no case has {} in its name", asked.part);
@@ -91,6 +102,9 @@ fn main() -> ExitCode {
 fn asked(mut words: impl Iterator<Item = String>) -> Option<Asked> {
     let mut asked = Asked {
         plan: PLAN,
+        seed: 0,
+        growth: false,
+        most: usize::MAX,
         before: None,
         serves: false,
         book: None,
@@ -99,6 +113,9 @@ fn asked(mut words: impl Iterator<Item = String>) -> Option<Asked> {
     while let Some(word) = words.next() {
         match word.as_str() {
             "--quick" => asked.plan = QUICK,
+            before::SEED => asked.seed = words.next()?.parse().ok()?,
+            "--growth" => asked.growth = true,
+            "--most" => asked.most = words.next()?.parse().ok()?,
             "--before" => asked.before = Some(words.next()?),
             "--book" => asked.book = Some(words.next()?),
             before::SERVE => asked.serves = true,
@@ -123,8 +140,8 @@ fn run(asked: &Asked, groups: &[(&'static str, Vec<Case>)]) -> io::Result<()> {
         Some(_) => "this build's to the other's",
     };
     println!(
-        "Nanoseconds a call; the ratio is {sides}. Medians of the blocks of each side, which take turns for {:?} a case.",
-        asked.plan.time
+        "Nanoseconds a call; the ratio is {sides}. Medians of the blocks of each side, which take turns for {:?} a case, and in brackets the quartiles of the ratio. The seed is {}.",
+        asked.plan.time, asked.seed
     );
     for (title, cases) in groups {
         match &asked.before {

@@ -1,5 +1,7 @@
 //! Numbers to draw from, and numbers as the tables have them.
 
+use crate::timing::Middle;
+
 /// So many items: 0, 1 and so on.
 pub fn counting(len: usize) -> Vec<u32> {
     (0..).take(len).collect()
@@ -37,9 +39,16 @@ pub fn rounded(number: f64, decimals: usize) -> String {
     }
 }
 
+/// A ratio with its quartiles.
+pub fn with_spread(ratio: Middle) -> String {
+    let [low, high] = ratio.quartiles.map(|quartile| rounded(quartile, 2));
+    format!("{} ({low}–{high})", rounded(ratio.median, 2))
+}
+
 #[cfg(test)]
 mod tests {
-    use super::{grouped, rounded};
+    use super::{grouped, rounded, with_spread};
+    use crate::timing::Middle;
 
     #[test]
     fn digits_are_grouped() {
@@ -52,5 +61,14 @@ mod tests {
         let texts = [0.254, 9.5, 16.64, 1234.5].map(|number| rounded(number, 2));
         assert_eq!(texts, ["0.25", "9.50", "16.6", "1,235"]);
         assert_eq!(rounded(16.64, 1), "17");
+    }
+
+    #[test]
+    fn a_ratio_has_its_quartiles() {
+        let ratio = Middle {
+            median: 0.844,
+            quartiles: [0.82, 11.26],
+        };
+        assert_eq!(with_spread(ratio), "0.84 (0.82–11.3)");
     }
 }

@@ -9,7 +9,7 @@ use crate::numbers::grouped;
 use crate::sides::{Case, Sides, ours, theirs};
 
 /// Amounts and lengths, by the method that is due.
-const SAMPLES: [(u32, u32); 11] = [
+const SAMPLES: [(u32, u32); 12] = [
     (5, 100),
     (12, 351),
     (162, 10_000_000),
@@ -21,6 +21,7 @@ const SAMPLES: [(u32, u32); 11] = [
     (2000, 500_000),
     (20_000, 1 << 31),
     (100_000, u32::MAX),
+    (1_000_000, u32::MAX),
 ];
 
 /// The parts of a stratified sample, and the amount and the length of each.

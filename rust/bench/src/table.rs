@@ -4,7 +4,7 @@ use std::io;
 
 use crate::allocation::Allocated;
 use crate::before::Before;
-use crate::numbers::{grouped, rounded};
+use crate::numbers::{grouped, rounded, with_spread};
 use crate::sides::Case;
 use crate::timing::{Measured, Plan};
 
@@ -61,7 +61,7 @@ pub fn print_before(title: &str, cases: &[Case], plan: &Plan, before: &str) -> i
 fn times(case: &Case, measured: &Measured) -> Vec<String> {
     let mut cells = vec![case.size.clone(), case.call.to_owned()];
     cells.extend(measured.times.iter().map(|&time| rounded(time, 1)));
-    cells.extend(measured.ratios.iter().map(|&ratio| rounded(ratio, 2)));
+    cells.extend(measured.ratios.iter().copied().map(with_spread));
     cells
 }
 

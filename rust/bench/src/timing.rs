@@ -2,8 +2,7 @@
 
 use std::time::{Duration, Instant};
 
-use reference::some_state;
-
+use crate::seed::state;
 use crate::sides::Sides;
 
 /// How long is measured. The machine may do other things at the same time, and may be faster at one time than at another: so there are many
@@ -17,7 +16,7 @@ pub struct Plan {
 }
 
 /// The fewest blocks of each side.
-const FEWEST: u64 = 15;
+const FEWEST: u32 = 15;
 
 /// A faster side's block has at least this part of a block's time.
 const LEAST: u32 = 10;
@@ -25,11 +24,18 @@ const LEAST: u32 = 10;
 /// How often a time is taken to find out how many calls a block has, so that none counts in which other work had the processor.
 const TRIES: usize = 3;
 
-/// The medians of all blocks: of the nanoseconds that a call takes on each side, and of the ratio of the port's block, which is the last, to each
+/// Of all blocks: the medians of the nanoseconds that a call takes on each side, and the ratios of the port's block, which is the last, to each
 /// neighbour.
 pub struct Measured {
     pub times: Vec<f64>,
-    pub ratios: Vec<f64>,
+    pub ratios: Vec<Middle>,
+}
+
+/// The middle of some numbers: their median, and the quartiles, between which half of them lie.
+#[derive(Clone, Copy, Debug, PartialEq)]
+pub struct Middle {
+    pub median: f64,
+    pub quartiles: [f64; 2],
 }
 
 /// What a block has: so many calls, and how many times over each side makes them.
@@ -47,7 +53,7 @@ impl Plan {
         let started = Instant::now();
         for block in (0..).take_while(|&block| block < FEWEST || started.elapsed() < self.time) {
             let first = block as usize % rounds.len();
-            let times = sides.times(some_state(block), calls, &rounds, first);
+            let times = sides.times(state(block), calls, &rounds, first);
             let nanoseconds = times.iter().zip(&rounds).map(|(time, &rounds)| {
                 time.as_nanos() as f64 / f64::from(calls) / f64::from(rounds)
             });
@@ -56,7 +62,7 @@ impl Plan {
         let time = |side: usize| median(blocks.iter().map(|block| block[side]).collect());
         let ratio = |side: usize| {
             let ratios = blocks.iter().map(|block| block[port] / block[side]);
-            median(ratios.collect())
+            Middle::of(ratios.collect())
         };
         Measured {
             times: (0..=port).map(time).collect(),
@@ -70,7 +76,7 @@ impl Plan {
         let once = vec![1; sides.timed.len()];
         let mut calls = 1;
         loop {
-            let tries = [(); TRIES].map(|()| sides.times(some_state(0), calls, &once, 0));
+            let tries = [(); TRIES].map(|()| sides.times(state(0), calls, &once, 0));
             let least = |side: usize| {
                 let times = tries.iter().map(|times| times[side]);
                 times.fold(Duration::MAX, Duration::min)
@@ -87,24 +93,55 @@ impl Plan {
     }
 }
 
-/// The middle of these numbers, or the mean of the two in the middle.
-pub fn median(mut numbers: Vec<f64>) -> f64 {
-    numbers.sort_by(f64::total_cmp);
-    let middle = numbers.len() / 2;
-    match numbers.len() % 2 {
-        0 => f64::midpoint(numbers[middle - 1], numbers[middle]),
-        _ => numbers[middle],
+/// The nanoseconds of one call of each side, for calls that take so long that more would be too many.
+pub fn once(sides: &mut Sides) -> Vec<f64> {
+    let rounds = vec![1; sides.timed.len()];
+    let times = sides.times(state(0), 1, &rounds, 0);
+    times.iter().map(|time| time.as_nanos() as f64).collect()
+}
+
+impl Middle {
+    pub fn of(mut numbers: Vec<f64>) -> Self {
+        numbers.sort_by(f64::total_cmp);
+        Self {
+            median: at_part(&numbers, 0.5),
+            quartiles: [0.25, 0.75].map(|part| at_part(&numbers, part)),
+        }
     }
+}
+
+/// The middle of these numbers, or the mean of the two in the middle.
+pub fn median(numbers: Vec<f64>) -> f64 {
+    Middle::of(numbers).median
+}
+
+/// The number at this part of the way through sorted numbers, which is between two of them where it falls on none.
+fn at_part(sorted: &[f64], part: f64) -> f64 {
+    let place = part * (sorted.len() - 1) as f64;
+    let (below, above) = (
+        sorted[place.floor() as usize],
+        sorted[place.ceil() as usize],
+    );
+    below + (above - below) * place.fract()
 }
 
 #[cfg(test)]
 mod tests {
-    use super::median;
+    use super::{Middle, median};
 
     #[test]
     fn the_median_is_the_middle_of_the_sorted_numbers() {
         assert_eq!(median(vec![5.0]), 5.0);
         assert_eq!(median(vec![9.0, 1.0, 2.0]), 2.0);
         assert_eq!(median(vec![4.0, 1.0, 100.0, 2.0]), 3.0);
+    }
+
+    #[test]
+    fn half_of_the_numbers_lie_between_the_quartiles() {
+        let middle = Middle::of(vec![9.0, 1.0, 5.0, 3.0, 7.0]);
+        assert_eq!(middle.quartiles, [3.0, 7.0]);
+        let middle = Middle::of(vec![4.0, 1.0, 2.0, 3.0]);
+        assert_eq!(middle.quartiles, [1.75, 3.25]);
+        assert_eq!(Middle::of(vec![5.0]).quartiles, [5.0, 5.0]);
     }
 }

@@ -5,7 +5,8 @@ use rand::distr::Distribution;
 use rand::distr::weighted::WeightedIndex as RandTable;
 
 use crate::numbers::grouped;
-use crate::sides::{Case, Sides, answer, ours, theirs};
+use crate::seed::seed;
+use crate::sides::{Case, Sides, Timed, answer, ours, theirs};
 
 /// How many weights the tables have.
 const COUNTS: [usize; 3] = [10, 1000, 100_000];
@@ -31,9 +32,13 @@ pub fn cases() -> Vec<Case> {
     cases
 }
 
-/// So many weights, from 1 to 10.
+/// So many weights, from 1 to 10: each seed begins at its own place of their row.
 pub fn weights(count: usize) -> Vec<u32> {
-    (0..).map(|i: u32| 1 + i * 7 % 10).take(count).collect()
+    let first = seed() % 10;
+    (0..)
+        .map(|i: u32| 1 + (first + i * 7) % 10)
+        .take(count)
+        .collect()
 }
 
 fn rand_table(count: usize) -> RandTable<u32> {
@@ -70,7 +75,7 @@ fn new(count: usize) -> Sides {
 }
 
 /// The weight in the middle becomes one of two in turn.
-fn change(count: usize) -> Sides {
+pub fn change(count: usize) -> Sides {
     let other = |weight: u32| 12 - weight;
     let (table, sums) = port_table(&weights(count));
     Sides::new(
@@ -91,6 +96,21 @@ fn change(count: usize) -> Sides {
             },
             |(table, sums, ..), ()| differences(*table, sums),
         ),
+    )
+}
+
+/// A lookup, with a plain pass over the sums beside it.
+pub fn lookup_and_pass(count: usize) -> Sides {
+    lookup(count).with(pass(count))
+}
+
+/// Reads each sum once and compares none: what the check for 7 costs at least.
+fn pass(count: usize) -> impl Timed + 'static {
+    let (_, sums) = port_table(&weights(count));
+    theirs(
+        sums,
+        |_, sums| sums.iter().fold(0, |all, sum| all | sum),
+        answer,
     )
 }
 

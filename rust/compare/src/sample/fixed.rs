@@ -43,10 +43,29 @@ const AT_BOUNDS: [(u64, u64); 6] = [
     (500_061, 13_638),
 ];
 
-/// Lengths that are rounded, with an amount whose line lies between them, and budgets. They take much memory, and the second,
-/// by rejection, would take long without its budget.
-const ROUNDED: [(u64, u64); 2] = [(16_777_346, 0), (16_777_347, 60_000)];
+/// Lengths that are rounded, with an amount whose line lies between them, and budgets. The first takes much memory.
+const ROUNDED: [(u64, u64); 2] = [(16_777_346, 0), (16_777_347, u64::MAX)];
 const ROUNDED_AMOUNT: u64 = 457_564;
+
+/// Samples by rejection at the amounts from which the port keeps what it has found in another way, and of one batch and several: lengths
+/// that are short for the amount, so that indices are drawn twice within a batch and across batches, and long ones.
+const IN_BATCHES: [(u64, u64); 12] = [
+    (270_000, 1000),
+    (270_270, 1001),
+    (733_400, 20_000),
+    (4_294_967_295, 20_000),
+    (733_400, 20_001),
+    (4_294_967_295, 20_001),
+    (1_201_600, 32_768),
+    (1_201_600, 32_769),
+    (2_403_100, 65_536),
+    (2_403_100, 65_537),
+    (3_700_000, 100_000),
+    (4_294_967_295, 100_000),
+];
+
+/// The port's batches have so many indices.
+const BATCH: u64 = 32_768;
 
 /// Samples that are given every budget. Floyd's: no index and one, entries that are replaced, and draws that read two words as often as
 /// not. In place: all places and few of many. By rejection: few and many words dropped, and indices drawn twice.
@@ -143,6 +162,9 @@ pub fn calls(mut visit: impl FnMut(Sampling)) {
         let call = exact(some_state(length), length, ROUNDED_AMOUNT);
         visit(Sampling { budget, ..call });
     }
+    for (number, (length, amount)) in (0..).zip(IN_BATCHES) {
+        in_batches(&exact(some_state(number), length, amount), &mut visit);
+    }
     for same in [41, 100, 164, 500, 5000] {
         at_bound(same, same, 5, &mut visit);
     }
@@ -217,6 +239,20 @@ pub fn budgets(call: &Sampling, visit: &mut impl FnMut(Sampling)) {
     let mut rng = from_state(call.from);
     let needed = by_rand(&mut rng, call.length as u32, call.amount as u32).words();
     for budget in 0..=needed + 2 {
+        visit(Sampling {
+            budget,
+            ..longer(call, 2)
+        });
+    }
+}
+
+/// A sample with budgets that end about a batch's end and about its own, and within the last batch.
+fn in_batches(call: &Sampling, visit: &mut impl FnMut(Sampling)) {
+    let mut rng = from_state(call.from);
+    let needed = by_rand(&mut rng, call.length as u32, call.amount as u32).words();
+    let ends = [BATCH, 2 * BATCH, needed - 1000, needed];
+    let near = ends.into_iter().flat_map(|end| [end - 1, end, end + 1]);
+    for budget in near.chain([0, u64::MAX]) {
         visit(Sampling {
             budget,
             ..longer(call, 2)
