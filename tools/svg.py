@@ -1,4 +1,4 @@
-"""What the scripts that draw pictures share: tools/picture and tools/flow. Widths and places are in pixels."""
+"""What the scripts that draw pictures share: tools/picture, tools/flow and tools/growth. Widths and places are in pixels."""
 
 import sys
 from xml.sax.saxutils import escape
