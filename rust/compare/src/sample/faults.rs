@@ -1,7 +1,5 @@
 //! Faults that can be put into the port's samples, so that a comparison is seen to fail.
 
-use std::collections::HashSet;
-
 use rand::rngs::Xoshiro256PlusPlus;
 use reference::advanced;
 use reference::draws::{BUDGET_EXHAUSTED, Draws, RAND, bounded, one_too_low, rejecting};
@@ -18,10 +16,6 @@ const IN_PLACE_BOUND: &str = "in-place-bound";
 
 /// The method by rejection that keeps an index drawn before.
 const REJECTION_DUPLICATE: &str = "rejection-duplicate";
-
-/// The method by rejection that looks for an index among the last [`REMEMBERED`] found alone.
-const REJECTION_FORGETS: &str = "rejection-forgets";
-const REMEMBERED: usize = 32_768;
 
 /// The method by rejection with a threshold that is one too low.
 const REJECTION_THRESHOLD: &str = "rejection-threshold";
@@ -48,11 +42,10 @@ const FLOYD_SPENT_UNDONE: &str = "floyd-spent-undone";
 const IN_PLACE_SPENT_COPIED: &str = "in-place-spent-copied";
 
 /// The names of the faults.
-pub const NAMES: [&str; 16] = [
+pub const NAMES: [&str; 15] = [
     FLOYD_APPENDS_J,
     IN_PLACE_BOUND,
     REJECTION_DUPLICATE,
-    REJECTION_FORGETS,
     WORDS,
     SPENT_EARLY,
     REFUSAL_ORDER,
@@ -86,10 +79,6 @@ pub fn planted(plant: Option<&str>) -> Option<End> {
         }
         REJECTION_DUPLICATE => |call, indices, scratch| {
             let faulty = rejection_duplicate;
-            with(call, Method::Rejection, faulty, indices, scratch)
-        },
-        REJECTION_FORGETS => |call, indices, scratch| {
-            let faulty = rejection_forgets;
             with(call, Method::Rejection, faulty, indices, scratch)
         },
         REJECTION_THRESHOLD => |call, indices, scratch| {
@@ -177,25 +166,6 @@ fn rejection_duplicate(rng: &mut Xoshiro256PlusPlus, length: u32, amount: u32) -
         let drawn = rejecting(rng, length);
         sample.read(drawn);
         sample.indices.push(drawn.value);
-    }
-    sample
-}
-
-/// Fault [`REJECTION_FORGETS`].
-fn rejection_forgets(rng: &mut Xoshiro256PlusPlus, length: u32, amount: u32) -> Sample {
-    let mut sample = Sample::default();
-    let mut held = HashSet::new();
-    let mut words = 0;
-    while sample.indices.len() < amount as usize {
-        let drawn = rejecting(rng, length);
-        words += drawn.words;
-        if held.insert(drawn.value) {
-            sample.indices.push(drawn.value);
-            sample.words.push(words);
-        }
-        if held.len() > REMEMBERED {
-            held.remove(&sample.indices[sample.indices.len() - held.len()]);
-        }
     }
     sample
 }

@@ -43,26 +43,14 @@ const AT_BOUNDS: [(u64, u64); 6] = [
     (500_061, 13_638),
 ];
 
-/// Lengths that are rounded, with an amount whose line lies between them, and budgets. The first takes much memory.
-const ROUNDED: [(u64, u64); 2] = [(16_777_346, 0), (16_777_347, u64::MAX)];
+/// Lengths that are rounded, with an amount whose line lies between them, and budgets. They take much memory. The second is by rejection, and its
+/// budget ends in the second batch.
+const ROUNDED: [(u64, u64); 2] = [(16_777_346, 0), (16_777_347, 60_000)];
 const ROUNDED_AMOUNT: u64 = 457_564;
 
-/// Samples by rejection at the amounts from which the port keeps what it has found in another way, and of one batch and several: lengths
-/// that are short for the amount, so that indices are drawn twice within a batch and across batches, and long ones.
-const IN_BATCHES: [(u64, u64); 12] = [
-    (270_000, 1000),
-    (270_270, 1001),
-    (733_400, 20_000),
-    (4_294_967_295, 20_000),
-    (733_400, 20_001),
-    (4_294_967_295, 20_001),
-    (1_201_600, 32_768),
-    (1_201_600, 32_769),
-    (2_403_100, 65_536),
-    (2_403_100, 65_537),
-    (3_700_000, 100_000),
-    (4_294_967_295, 100_000),
-];
+/// Samples by rejection at an amount from which the port goes batch by batch, and of two batches and three. The lengths are short for the
+/// amounts, so that indices are drawn twice within a batch and across batches.
+const IN_BATCHES: [(u64, u64); 3] = [(733_400, 20_001), (1_201_600, 32_769), (2_403_100, 65_537)];
 
 /// The port's batches have so many indices.
 const BATCH: u64 = 32_768;
@@ -246,13 +234,11 @@ pub fn budgets(call: &Sampling, visit: &mut impl FnMut(Sampling)) {
     }
 }
 
-/// A sample with budgets that end about a batch's end and about its own, and within the last batch.
+/// A sample with a budget that ends within a batch, with one word too few, with as many as it needs, and with more.
 fn in_batches(call: &Sampling, visit: &mut impl FnMut(Sampling)) {
     let mut rng = from_state(call.from);
     let needed = by_rand(&mut rng, call.length as u32, call.amount as u32).words();
-    let ends = [BATCH, 2 * BATCH, needed - 1000, needed];
-    let near = ends.into_iter().flat_map(|end| [end - 1, end, end + 1]);
-    for budget in near.chain([0, u64::MAX]) {
+    for budget in [BATCH, needed - 1, needed, u64::MAX] {
         visit(Sampling {
             budget,
             ..longer(call, 2)
