@@ -2,7 +2,7 @@
  *
  * For x86-64 Linux. `tools/install PREFIX` puts this header in PREFIX/include, the archive to link with, libgapyndura.a, in PREFIX/lib,
  * and a file for pkg-config beside the archive: cc program.c $(pkg-config --cflags --libs gapyndura). In the repository itself the
- * archive is target/staticlib/libcapi.a, which `rt staticlib capi` makes.
+ * archive is crates/capi/out/libcapi.a, which `rt lib` in crates/capi makes.
  *
  * docs/SCOPE.md of the repository says by number all that these calls promise. SCOPE 7 below is section 7 of that page.
  *

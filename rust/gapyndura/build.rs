@@ -3,8 +3,8 @@
 use std::env;
 use std::path::{Path, PathBuf};
 
-/// Where `rt staticlib capi` lays the archive, seen from this package.
-const FOLDER: &str = "../../target/staticlib";
+/// Where `rt lib` lays the archive, seen from this package.
+const FOLDER: &str = "../../crates/capi/out";
 
 /// The variable that names another folder: of an archive that is installed, or of another version.
 const OTHER: &str = "GAPYNDURA_ARCHIVE";
@@ -25,8 +25,8 @@ fn main() {
     if found.is_none() {
         // No error: documentation and a check link nothing. What does link stops at the last line here, and Cargo says this again beside it.
         println!(
-            "cargo::warning=there is no archive in {}, so nothing can be linked: make it with `rt staticlib capi` at the root of the \
-             repository, or name its folder in {OTHER}",
+            "cargo::warning=there is no archive in {}, so nothing can be linked: make it with `rt lib` in crates/capi of the repository, \
+             or name its folder in {OTHER}",
             folder.display()
         );
     }
