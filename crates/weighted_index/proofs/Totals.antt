@@ -1,6 +1,8 @@
 -- Totals and running sums of lists of weights.
 -- Assumes nothing.
-use Rattle.std.proofs.Common.{◌≡◌, ℕ, zero, suc, ◌+◌, ◌-◌, ◌<◌, ◌≤◌, Bool, true, false, eqb, ltb, List, [], ◌∷◌, length, get_or, take, set, sym, refl, ◌∙◌, arith, ltb-false, ltb-true, le-ltb, lt-ltb, eq-eqb, eqb-true}
+use Rattle.std.proofs.Common.{◌≡◌, ℕ, zero, suc, ◌+◌, ◌-◌, ◌<◌, ◌≤◌, Bool, true, false, eqb, ltb, List, [], ◌∷◌, length, sum, get_or, take, set, sym, refl, ◌∙◌, arith, ltb-false, ltb-true, le-ltb, lt-ltb, eq-eqb, eqb-true}
+use Rattle.std.proofs.lemmas.List.Recursion.{same_from_clauses}
+use Rattle.std.proofs.lemmas.List.Sums.{sum_by-cons}
 use mathlib.Core.Bool.{false≢true}
 use Rattle.counting.proofs.Tests.{and-true, is_false}
 use Rattle.weighted_index.specs.Weights.{most_total, total, overflows, all_zero, sums_from}
@@ -8,6 +10,11 @@ use Rattle.weighted_index.specs.Weights.{most_total, total, overflows, all_zero,
 pub total-nil : total [] ≡ 0
 unfolding total
 total-nil = refl
+
+-- std's word for it
+pub total_is_sum : (ws : List ℕ) → total ws ≡ sum ws
+unfolding total
+total_is_sum ws = same_from_clauses total sum ◌+◌ refl (λ _ _. refl) (sum_by-cons (λ n. n)) ws
 
 pub total-cons : (w : ℕ) (ws : List ℕ) → total (w ∷ ws) ≡ w + total ws
 unfolding total
