@@ -48,6 +48,12 @@ pub record Checking (ws ps vs : List ℕ) (running least j : ℕ) : Type 0 where
   pub goes : places_refusal (length ws) least (drop j ps) ≡ places_refusal (length ws) 0 ps
   pub ends : replaced weights (drop j ps) (drop j vs) ≡ replaced ws ps vs
 
+-- the item j
+pub record Item (ps vs : List ℕ) (j place new : ℕ) : Type 0 where
+  pub more : j < length ps
+  pub its_place : place ≡ get_or ps j 0
+  pub its_weight : new ≡ get_or vs j 0
+
 module _ (ws ps vs : List ℕ) where
   pub begin : (running : ℕ) → length ps ≡ length vs → running ≡ total ws → running ≤ most_total → Checking ws ps vs running 0 0
   begin running h e o =
@@ -73,21 +79,18 @@ module _ (ws ps vs : List ℕ) where
         (ap total (sym r.ends ∙ rw none_left (none-replaced now-weights (drop j vs))) ∙ sym r.sum)
 
     -- ---- the next item
-    module _ (more : j < length ps) where
-      abbrev pub place : ℕ
-      place = get_or ps j 0
-
-      abbrev pub new : ℕ
-      new = get_or vs j 0
+    module _ (place new : ℕ) (item : Item ps vs j place new) where
+      more : j < length ps
+      more = item.more
 
       abbrev places : List ℕ
       places = drop (suc j) ps
 
       places-split : drop j ps ≡ place ∷ places
-      places-split = drop-cons ps j 0 more
+      places-split = drop-cons ps j 0 more ∙ ap (λ (p : ℕ). p ∷ places) (sym item.its_place)
 
       weights-split : drop j vs ≡ new ∷ drop (suc j) vs
-      weights-split = drop-cons vs j 0 (omega (arith, r.same))
+      weights-split = drop-cons vs j 0 (omega (arith, r.same)) ∙ ap (λ (v : ℕ). v ∷ drop (suc j) vs) (sym item.its_weight)
 
       here : places_refusal (length ws) 0 ps ≡ places_refusal (length ws) least (place ∷ places)
       here = sym r.goes ∙ rw places-split
