@@ -1,0 +1,33 @@
+-- Texts, one behind another, in a block.
+-- Assumes nothing.
+use Rattle.std.proofs.Common.{◌≡◌, List, [], ◌++◌, ℕ, ◌+◌, ◌-◌, ◌≤◌, length, take, drop, refl, ap, sym, ◌∙◌, arith, length-append, append_assoc, append-nil}
+use Rattle.std.proofs.lemmas.Slice.{drop-put_mid}
+use borrow.Rule.Slice.PartMut.{put_mid}
+use lib.Seq.{drop-drop}
+use Rattle.command_line.specs.Block.{Extends}
+use Rattle.command_line.specs.declared.block.Block.{Block}
+
+-- what is put between two places leaves the bytes behind them as they were
+pub kept_behind : (xs ys : List ℕ) (a e : ℕ) → a ≤ e → e ≤ length xs → length ys ≡ e - a → drop e (put_mid a (e - a) xs ys) ≡ drop e xs
+kept_behind xs ys a e h i f = drop-put_mid a (e - a) xs ys e (omega arith) (omega arith) f
+
+-- bytes that two writes leave as they were
+pub kept_twice : (xs ys zs : List ℕ) (a e : ℕ) → drop a ys ≡ drop a xs → drop e zs ≡ drop e ys → a ≤ e → drop e zs ≡ drop e xs
+kept_twice xs ys zs a e f g h =
+    let k : a + (e - a) ≡ e = omega arith in
+    g ∙ rw k at (sym (drop-drop (e - a) a ys) ∙ ap (drop (e - a)) f ∙ drop-drop (e - a) a xs)
+
+-- one text behind another
+pub then : (a b c : Block) (s t : List ℕ) → Extends a b s → Extends b c t → Extends a c (s ++ t)
+then a b c s t e f =
+    record {
+      same_reference = f.same_reference ∙ e.same_reference;
+      room = f.room ∙ e.room;
+      used = omega (arith, e.used, f.used, length-append s t);
+      front = f.front ∙ ap (λ (x : List ℕ). x ++ t) e.front ∙ append_assoc (take a.used a.bytes.now) s t;
+      rest = kept_twice a.bytes.now b.bytes.now c.bytes.now b.used c.used e.rest f.rest (omega (arith, f.used));
+    }
+
+-- no text
+pub nothing : (a : Block) → Extends a a []
+nothing a = record { same_reference = refl; room = refl; used = omega arith; front = sym (append-nil (take a.used a.bytes.now)); rest = refl }
