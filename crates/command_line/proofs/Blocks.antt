@@ -1,6 +1,6 @@
 -- Texts, one behind another, in a block.
 -- Assumes nothing.
-use Rattle.std.proofs.Common.{◌≡◌, List, [], ◌++◌, ℕ, ◌+◌, ◌-◌, ◌≤◌, length, take, drop, refl, ap, sym, ◌∙◌, arith, length-append, append_assoc, append-nil}
+use Rattle.std.proofs.Common.{◌≡◌, List, [], ◌++◌, ℕ, ◌+◌, ◌-◌, ◌≤◌, length, take, drop, refl, ap, sym, ◌∙◌, arith, min, length-take, length-take-le, length-append, append_assoc, append-nil}
 use Rattle.std.proofs.lemmas.Slice.{drop-put_mid}
 use borrow.Rule.Slice.PartMut.{put_mid}
 use lib.Seq.{drop-drop}
@@ -31,3 +31,11 @@ then a b c s t e f =
 -- no text
 pub nothing : (a : Block) → Extends a a []
 nothing a = record { same_reference = refl; room = refl; used = omega arith; front = sym (append-nil (take a.used a.bytes.now)); rest = refl }
+
+-- a block holds no more than it has
+pub inside : (a b : Block) (s : List ℕ) → Extends a b s → a.used ≤ length a.bytes.now → b.used ≤ length b.bytes.now
+inside a b s e h =
+    let size : min b.used (length b.bytes.now) ≡ a.used + length s =
+    sym (length-take b.used b.bytes.now) ∙ ap length e.front ∙ length-append (take a.used a.bytes.now) s ∙ ap (λ (k : ℕ). k + length s) (length-take-le a.used a.bytes.now h)
+    in
+    omega (arith, size, e.used)
