@@ -119,9 +119,10 @@ module _ (ws ps vs : List ℕ) where
             pub new-fits : length ws ≤ most_weights → running - old + new < 2 ^ 64
             new-fits l = omega (arith, new-sum, new-size, total-small (set now-weights place new) new-each)
 
-            pub turn : Checking ws ps vs (running - old + new) (place + 1) (j + 1)
-            turn =
-                record {
+            pub turn : (next : ℕ) → next ≡ place + 1 → Checking ws ps vs (running - old + new) next (j + 1)
+            turn next step =
+                rw step
+                (record {
                   weights = set now-weights place new;
                   upto = omega arith;
                   same = r.same;
@@ -133,4 +134,4 @@ module _ (ws ps vs : List ℕ) where
                   ends =
                       rw (add-one j)
                       (sym (item-replaced now-weights place new places (drop (suc j) vs)) ∙ rw (← places-split, ← weights-split) r.ends);
-                }
+                })

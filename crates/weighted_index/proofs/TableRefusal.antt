@@ -33,5 +33,5 @@ module _ (t : WeightedIndex) (s : List ℕ) where
       go false true q = let same : InvalidTable ≡ why = cc in ap f same
       go false false q = cc
 
--- the laws of the cases together, for `Table::new`
+-- the laws of the cases together, for `Table::checked`
 pub ruleset refusal_cases = (too_long, invalid, taken)
