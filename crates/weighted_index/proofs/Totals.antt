@@ -4,7 +4,7 @@ use Rattle.std.proofs.Common.{◌≡◌, ℕ, zero, suc, ◌+◌, ◌-◌, ◌<�
 use Rattle.std.proofs.lemmas.List.Recursion.{same_from_clauses}
 use Rattle.std.proofs.lemmas.List.Sums.{sum_by-cons}
 use mathlib.Core.Bool.{false≢true}
-use Rattle.counting.proofs.Tests.{and-true, is_false}
+use Rattle.std.proofs.lemmas.Bool.{and_parts, false_from_ne_true}
 use Rattle.weighted_index.specs.Weights.{most_total, total, overflows, all_zero, sums_from}
 
 pub total-nil : total [] ≡ 0
@@ -58,10 +58,10 @@ all-zero (w ∷ ws) h = rw (eq-eqb w 0 (omega arith)) (all-zero ws (omega arith)
 zero-total : (ws : List ℕ) → all_zero ws ≡ true → total ws ≡ 0
 unfolding all_zero total
 zero-total [] h = refl
-zero-total (w ∷ ws) h = let u = and-true (eqb w 0) (all_zero ws) h in omega (arith, eqb-true w 0 u.0, zero-total ws u.1)
+zero-total (w ∷ ws) h = let u = and_parts (eqb w 0) (all_zero ws) h in omega (arith, eqb-true w 0 u.0, zero-total ws u.1)
 
 pub not-all-zero : (ws : List ℕ) → 0 < total ws → all_zero ws ≡ false
-not-all-zero ws h = is_false (all_zero ws) (λ e. omega (arith, zero-total ws e))
+not-all-zero ws h = false_from_ne_true (all_zero ws) (λ e. omega (arith, zero-total ws e))
 
 pub small-total : (ws : List ℕ) → overflows ws ≡ false → total ws ≤ most_total
 unfolding overflows
