@@ -1,5 +1,5 @@
 use native.Mathlib.Omega.{arith}
-use Rattle.command_line.proofs.HexText.{begin_text, turn_text, finish_text, length-front}
+use Rattle.command_line.proofs.HexText.{begin_text, turn_text, length-front}
 use Rattle.command_line.proofs.block.Block.append_hex.Goals as goal
 
 pub loop-byte-init : goal.loop-byte-init
@@ -12,6 +12,3 @@ append-requires c =
 
 pub loop-byte-preserved : goal.loop-byte-preserved
 loop-byte-preserved c = turn_text _ _ _ _ _ _ _ (omega arith) c.upper_digit.ensures c.lower_digit.ensures c.loop-byte.invariant c.append.ensures
-
-pub returns : goal.returns
-returns c = finish_text _ _ _ _ (omega arith) c.loop-byte.invariant
