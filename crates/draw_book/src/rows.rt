@@ -4,7 +4,8 @@ ghost use Rattle.draw_book.specs.Reading.{count_in, is_body};
 
 use super::kinds::is_count;
 
-// A row of the contents table: a job's kind, the place where its body begins, and the body's length in bytes.
+// A row of the contents table: a job's kind, the place where its body begins, and the body's length in bytes. The format fixes that a kind is any
+// number here: a book with one that is not known is read so far, and then refused.
 #[derive(Clone, Copy, Debug, PartialEq, Eq)]
 pub struct Row {
     pub kind: u32,
