@@ -6,7 +6,9 @@ ghost use Rattle.std.specs.Prelude.{◌≡◌, Err};
 use refusal::Refusal;
 use xoshiro256plusplus::Xoshiro256PlusPlus;
 
-// The generator, the words read so far, and the most that may be read.
+// The generator, the words read so far, and the most that may be read. docs/SCOPE.md (19.6) wants steps by value: so a draw answers the source beside its value,
+// each draw says that the budget is as it was, and no `?` ends a loop of draws. That no more words are read than the budget has is no fact of the type, since
+// `random_range` asks it of no caller.
 #[derive(Clone, Copy, Debug, PartialEq, Eq)]
 pub struct Metered {
     pub rng: Xoshiro256PlusPlus,
