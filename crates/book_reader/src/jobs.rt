@@ -2,7 +2,8 @@
 ghost use Rattle.std.specs.Prelude.{◌≡◌, replicate};
 
 // The kind of each job; how many numbers it has; the seeds, 32 bytes each; and all numbers, one after another. The arrays hold the most that a book has, and
-// what stands behind its jobs in them says nothing. The rule that no call of a library takes memory needs arrays here.
+// what stands behind its jobs in them says nothing. The rule that no call of a library takes memory needs arrays here (docs/DECISIONS.md, "There is no heap").
+// A kind is a number here, as the definition `read_of` has it, which may not change.
 #[derive(Clone, Copy, Debug, PartialEq, Eq)]
 pub struct JobArrays {
     pub kinds: [u32; 64],

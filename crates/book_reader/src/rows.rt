@@ -5,7 +5,8 @@ ghost use Rattle.draw_book.specs.Reading.{rows_of};
 use super::numbers::u32_at;
 use draw_book::rows::Row;
 
-// How many rows are left, and the bytes that they are at the front of.
+// How many rows are left, and the bytes that they are at the front of. The count stands beside the bytes, as the definition `rows_of` takes both, which may
+// not change.
 #[derive(Clone, Copy, Debug)]
 pub(crate) struct Rows<'a> {
     left: usize,
