@@ -1,8 +1,11 @@
 -- Texts, one behind another, in a block.
 -- Assumes nothing.
-use Rattle.std.proofs.Common.{◌≡◌, List, [], ◌++◌, ℕ, ◌+◌, ◌-◌, ◌≤◌, length, take, drop, refl, ap, sym, ◌∙◌, arith, min, length-take, length-take-le, length-append, append_assoc, append-nil}
+use Rattle.std.proofs.Common.{◌≡◌, List, [], ◌∷◌, ◌<◌, ◌++◌, ℕ, ◌+◌, ◌-◌, ◌≤◌, length, take, drop, refl, ap, sym, ◌∙◌, arith, min, length-take, length-take-le, length-append, append_assoc, append-nil}
 use Rattle.std.proofs.lemmas.Slice.{drop-put_mid}
+use Rattle.std.proofs.lemmas.List.{length-set, take_more_set, drop-set-lt}
+use borrow.Rule.Slice.Mut.{set_vals}
 use borrow.Rule.Slice.PartMut.{put_mid}
+use lib.ListN.{set}
 use lib.Seq.{drop-drop}
 use Rattle.command_line.specs.Block.{Extends}
 use Rattle.command_line.specs.declared.block.Block.{Block}
@@ -26,6 +29,17 @@ then a b c s t e f =
       used = omega (arith, e.used, f.used, length-append s t);
       front = f.front ∙ ap (λ (x : List ℕ). x ++ t) e.front ∙ append_assoc (take a.used a.bytes.now) s t;
       rest = kept_twice a.bytes.now b.bytes.now c.bytes.now b.used c.used e.rest f.rest (omega (arith, f.used));
+    }
+
+-- one byte
+pub byte_put : (a : Block) (x : ℕ) → a.used < length a.bytes.now → Extends a (record { bytes = set_vals (set a.bytes.now a.used x) a.bytes; used = a.used + 1 }) (x ∷ [])
+byte_put a x h =
+    record {
+      same_reference = refl;
+      room = length-set a.bytes.now a.used x;
+      used = refl;
+      front = take_more_set a.bytes.now a.used x h;
+      rest = drop-set-lt (a.used + 1) a.bytes.now a.used x (omega arith);
     }
 
 -- no text
